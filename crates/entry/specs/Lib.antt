@@ -1,0 +1,5 @@
+pub mod Entries
+pub mod Faults
+pub mod Fields
+pub mod Letters
+pub mod Lines

@@ -1,0 +1,89 @@
+// One line of a day's list, read in place: an entry, the question for the report, or a fault with its column.
+ghost use mathlib.Core.Path.{_≡_};
+ghost use Prim.Native.Nat.{_≤_};
+ghost use lib.ListN.{length};
+ghost use Rattle.std.specs.declared.result.Result.the-variants.{Ok};
+ghost use Rattle.figure.specs.Figure.{andThen};
+ghost use Rattle.entry.specs.Entries.{asked};
+ghost use Rattle.entry.specs.Fields.{mapOk, endAt};
+ghost use Rattle.entry.specs.Lines.{restAt, lineOf};
+
+mod fault;
+mod fields;
+mod letters;
+mod lines;
+mod types;
+mod words;
+
+pub use fault::Decline;
+pub use fault::LineFault;
+pub use fault::Misfigure;
+pub use types::Effect;
+pub use types::Entry;
+pub use types::Kind;
+pub use types::Request;
+pub use types::Right;
+pub use types::Side;
+pub use types::Terms;
+
+use fields::LONGEST;
+use fields::ended;
+use fields::value;
+use lines::announce_line;
+use lines::band_line;
+use lines::cancel_line;
+use lines::contract_line;
+use lines::deposit_line;
+use lines::fill_line;
+use lines::mark_line;
+use lines::order_line;
+use lines::product_line;
+use lines::spot_line;
+use lines::withdraw_line;
+use words::Word;
+use words::read_word;
+
+// A word that has no fields says it all.
+fn bare<'a>(line: &'a [u8], at: usize, says: Request<'a>) -> Result<Request<'a>, LineFault>
+    requires { ⌜ at ≤ length (now line) ⌝ ∗ ⌜ length (now line) ≤ 200 ⌝ }
+    ensures { λ r. ⌜ mapOk asked r ≡ andThen (endAt (now (line .entry)) at) (λ _. Ok (asked (says .entry))) ⌝ }
+{
+    ended(line, at)?;
+    Ok(says)
+}
+
+// What follows the word.
+fn rest(word: Word, line: &[u8], at: usize) -> Result<Request<'_>, LineFault>
+    requires { ⌜ at ≤ length (now line) ⌝ ∗ ⌜ length (now line) ≤ 200 ⌝ }
+    ensures { λ r. ⌜ mapOk asked r ≡ restAt word (now (line .entry)) at ⌝ }
+{
+    match word {
+        Word::Product => product_line(line, at),
+        Word::Contract => contract_line(line, at),
+        Word::Announce => announce_line(line, at),
+        Word::Band => band_line(line, at),
+        Word::Spot => spot_line(line, at),
+        Word::Mark => mark_line(line, at),
+        Word::Deposit => deposit_line(line, at),
+        Word::Withdraw => withdraw_line(line, at),
+        Word::Cancel => cancel_line(line, at),
+        Word::Order => order_line(line, at),
+        Word::Fill => fill_line(line, at),
+        Word::Open => bare(line, at, Request::Enter(Entry::Open)),
+        Word::Close => bare(line, at, Request::Enter(Entry::Close)),
+        Word::Deadline => bare(line, at, Request::Enter(Entry::Deadline)),
+        Word::Report => bare(line, at, Request::Report),
+    }
+}
+
+// The form of a line, from its length to its last field.
+fn read(line: &[u8]) -> Result<Request<'_>, LineFault>
+    ensures { λ r. ⌜ mapOk asked r ≡ lineOf (now (line .entry)) ⌝ }
+{
+    if line.len() > LONGEST {
+        return Err(LineFault::Form { at: LONGEST + 1 });
+    }
+    let first = value(line, 0);
+    let word = read_word(first)?;
+    rest(word, line, first.len())
+}

@@ -1,0 +1,3 @@
+pub mod Bind
+pub mod Digits
+pub mod Exactly
