@@ -1,1 +1,5 @@
 pub mod Scans
+pub mod Values
+pub mod Reading
+pub mod FieldKinds
+pub mod WholeLine

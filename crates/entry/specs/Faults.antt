@@ -1,4 +1,6 @@
 -- The numbers by which a line is declined.
+use Rattle.std.specs.declared.result.Result.{Result}
+use Rattle.std.specs.declared.result.Result.the-variants.{Ok, Err}
 use Rattle.entry.specs.declared.fault.Decline.{Decline}
 use Rattle.entry.specs.declared.fault.LineFault.{LineFault}
 use Rattle.entry.specs.declared.fault.LineFault.the-variants.{Figure, Form}
@@ -8,3 +10,7 @@ use Rattle.entry.specs.declared.fault.LineFault.the-variants.{Figure, Form}
 abbrev pub declineOf : LineFault → Decline
 declineOf (Figure f) = record { number = 1; layer = 1; at = f .at; short = 0 }
 declineOf (Form column) = record { number = 2; layer = 2; at = column; short = 0 }
+
+abbrev pub mapErr : {A E F : Type 0} → (E → F) → Result A E → Result A F
+mapErr f (Ok x) = Ok x
+mapErr f (Err e) = Err (f e)

@@ -1,6 +1,6 @@
 -- One field of a line, read at a place: the value and the place behind it, or the fault with its column. Columns count
 -- from 1, places from 0.
-use mathlib.Core.Bool.{Bool, true, cond, _&&_, _||_}
+use mathlib.Core.Bool.{Bool, cond, _&&_, _||_}
 use mathlib.Core.List.{List, [], _∷_}
 use Prim.Native.Nat.{ℕ, _+_}
 use denote.Ref.{RefT}
@@ -11,7 +11,7 @@ use Rattle.std.specs.declared.option.Option.{Option}
 use Rattle.std.specs.declared.option.Option.the-variants.{Some, None}
 use Rattle.std.specs.declared.result.Result.{Result}
 use Rattle.std.specs.declared.result.Result.the-variants.{Ok, Err}
-use Rattle.figure.specs.Figure.{andThen, figureOf}
+use Rattle.figure.specs.Figure.{andThen, every, figureOf}
 use Rattle.figure.specs.declared.FigureFault.{FigureFault}
 use Rattle.entry.specs.declared.fault.LineFault.{LineFault}
 use Rattle.entry.specs.declared.fault.LineFault.the-variants.{Figure, Form}
@@ -51,46 +51,36 @@ abbrev pub carried : {A : Type 0} → Result A Misfigure → Result A LineFault
 carried (Ok x) = Ok x
 carried (Err f) = Err (Figure f)
 
--- a figure
-abbrev pub figureAt : List ℕ → List ℕ → ℕ → Result (ℕ × ℕ) LineFault
-figureAt key line at =
+-- a field: its key, and its value read by a reader that is told the column where the value begins
+abbrev pub fieldAt : {A : Type 0} → (ℕ → List ℕ → Result A LineFault) → List ℕ → List ℕ → ℕ → Result (A × ℕ) LineFault
+fieldAt reader key line at =
     andThen (keyAt key line at) (λ start.
-    andThen (carried (placed (start + 1) (figureOf (valueAt line start)))) (λ n.
-    Ok (n, start + length (valueAt line start))))
+    andThen (reader (start + 1) (valueAt line start)) (λ value.
+    Ok (value, start + length (valueAt line start))))
+
+-- a figure
+abbrev pub figureIn : ℕ → List ℕ → Result ℕ LineFault
+figureIn column bs = carried (placed column (figureOf bs))
 
 -- capitals and digits
 abbrev pub isNameByte : ℕ → Bool
 isNameByte b = (leb 65 b && leb b 90) || (leb 48 b && leb b 57)
 
-abbrev pub allNameBytes : List ℕ → Bool
-allNameBytes [] = true
-allNameBytes (b ∷ bs) = isNameByte b && allNameBytes bs
-
 -- 1 to 8 of them
 abbrev pub isName : List ℕ → Bool
-isName bs = ltb 0 (length bs) && (leb (length bs) 8 && allNameBytes bs)
+isName bs = ltb 0 (length bs) && (leb (length bs) 8 && every isNameByte bs)
+
+abbrev pub nameIn : ℕ → List ℕ → Result (List ℕ) LineFault
+nameIn column bs = cond (isName bs) (Ok bs) (Err (Form column))
 
 -- the bytes of a name that is a part of the line
 abbrev pub nameOf : RefT (List ℕ) × ℕ → List ℕ × ℕ
 nameOf x = (x .0 .now, x .1)
 
--- a name
-abbrev pub nameAt : List ℕ → List ℕ → ℕ → Result (List ℕ × ℕ) LineFault
-nameAt key line at =
-    andThen (keyAt key line at) (λ start.
-    cond (isName (valueAt line start)) (Ok (valueAt line start, start + length (valueAt line start))) (Err (Form (start + 1))))
-
+-- a single letter that stands for something
 abbrev pub orForm : {A : Type 0} → ℕ → Option A → Result A LineFault
 orForm column (Some x) = Ok x
 orForm column None = Err (Form column)
 
--- what the single letter of a value stands for
 abbrev pub letterIn : {A : Type 0} → (ℕ → Option A) → ℕ → List ℕ → Result A LineFault
 letterIn meant column bs = cond (eqb (length bs) 1) (orForm column (meant (getD bs 0 0))) (Err (Form column))
-
--- a letter
-abbrev pub letterAt : {A : Type 0} → (ℕ → Option A) → List ℕ → List ℕ → ℕ → Result (A × ℕ) LineFault
-letterAt meant key line at =
-    andThen (keyAt key line at) (λ start.
-    andThen (letterIn meant (start + 1) (valueAt line start)) (λ case.
-    Ok (case, start + length (valueAt line start))))

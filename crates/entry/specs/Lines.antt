@@ -13,6 +13,7 @@ use Rattle.std.specs.declared.option.Option.the-variants.{Some}
 use Rattle.std.specs.declared.result.Result.{Result}
 use Rattle.std.specs.declared.result.Result.the-variants.{Ok, Err}
 use Rattle.figure.specs.Figure.{andThen}
+use Rattle.entry.specs.declared.fault.Decline.{Decline}
 use Rattle.entry.specs.declared.fault.LineFault.{LineFault}
 use Rattle.entry.specs.declared.fault.LineFault.the-variants.{Form}
 use Rattle.entry.specs.declared.types.Effect.{Effect}
@@ -23,7 +24,8 @@ use Rattle.entry.specs.declared.types.Terms.{Terms}
 use Rattle.entry.specs.declared.words.Word.{Word}
 use Rattle.entry.specs.declared.words.Word.the-variants.{Product as ProductWord, Contract as ContractWord, Announce as AnnounceWord, Band as BandWord, Spot as SpotWord, Mark as MarkWord, Deposit as DepositWord, Withdraw as WithdrawWord, Cancel as CancelWord, Order as OrderWord, Fill as FillWord, Open as OpenWord, Close as CloseWord, Deadline as DeadlineWord, Report as ReportWord}
 use Rattle.entry.specs.Entries.{Said, lists-product, lists-contract, announces, sets-band, sets-spot, sets-mark, deposits, withdraws, cancels, orders, fills, opens, closes, ends-deadline, Asked, enters, reports}
-use Rattle.entry.specs.Fields.{mapOk, valueAt, endAt, figureAt, nameAt, letterAt, isName}
+use Rattle.entry.specs.Faults.{mapErr, declineOf}
+use Rattle.entry.specs.Fields.{valueAt, endAt, fieldAt, figureIn, nameIn, letterIn, isName}
 use Rattle.entry.specs.Letters.{kindLetter, rightLetter, sideLetter, effectLetter, kindOf, rightOf, sideOf, effectOf}
 
 -- a kind of field: what it holds, how it is read at a place of a line, which values a line may give it, how one is written
@@ -38,13 +40,13 @@ abbrev pub keyed : List ℕ → List ℕ → List ℕ
 keyed key value = 32 ∷ (key ++ value)
 
 abbrev pub figure : List ℕ → Field
-figure key = record { Value = ℕ; read = figureAt key; Valid = λ n. n < 10 ^ 15; text = λ n. keyed key (decimal n) }
+figure key = record { Value = ℕ; read = fieldAt figureIn key; Valid = λ n. n < 10 ^ 15; text = λ n. keyed key (decimal n) }
 
 abbrev pub name : List ℕ → Field
-name key = record { Value = List ℕ; read = nameAt key; Valid = λ bs. isName bs ≡ true; text = keyed key }
+name key = record { Value = List ℕ; read = fieldAt nameIn key; Valid = λ bs. isName bs ≡ true; text = keyed key }
 
 abbrev pub letter : {A : Type 0} → (ℕ → Option A) → (A → ℕ) → List ℕ → Field
-letter {A} meant byte key = record { Value = A; read = letterAt meant key; Valid = λ x. Unit {0}; text = λ x. keyed key (byte x ∷ []) }
+letter {A} meant byte key = record { Value = A; read = fieldAt (letterIn meant) key; Valid = λ x. Unit {0}; text = λ x. keyed key (byte x ∷ []) }
 
 abbrev pub kind : Field
 kind = letter kindOf kindLetter (codes "kind=")
@@ -164,6 +166,10 @@ abbrev pub lineOf : List ℕ → Result Asked LineFault
 lineOf line =
     cond (ltb 200 (length line)) (Err (Form 201))
     (andThen (wordIn words (valueAt line 0)) (λ w. restAt w line (length (valueAt line 0))))
+
+-- the same with the numbers of a decline
+abbrev pub answerTo : List ℕ → Result Asked Decline
+answerTo line = mapErr declineOf (lineOf line)
 
 -- the line is the word with these values written in its fields, each value one that a line may give
 pub record Written (w : Word) (vs : Values (fieldsOf w)) (line : List ℕ) : Type 0 where

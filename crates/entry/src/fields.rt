@@ -5,7 +5,8 @@ ghost use Prim.Native.Nat.{_+_, _≤_};
 ghost use lib.ListN.{length, getD, take, drop};
 ghost use Rattle.std.specs.Vec.{made};
 ghost use Rattle.std.specs.shelf.Text.{sameBytes};
-ghost use Rattle.entry.specs.Fields.{valueAt, keyAt, endAt, placed, isNameByte, allNameBytes, isName, mapOk, nameOf, figureAt, nameAt, letterAt, letterIn};
+ghost use Rattle.figure.specs.Figure.{every};
+ghost use Rattle.entry.specs.Fields.{mapOk, valueAt, keyAt, endAt, placed, fieldAt, figureIn, isNameByte, isName, nameIn, nameOf, letterIn};
 use crate::fault::LineFault;
 use crate::fault::LineFromFigure;
 use crate::fault::Misfigure;
@@ -84,7 +85,7 @@ fn place(read: Result<u64, FigureFault>, column: usize) -> Result<u64, Misfigure
 // The figure of a field, and where the field ends.
 pub(crate) fn figure_field(line: &[u8], at: usize, name: &[u8]) -> Result<(u64, usize), LineFault>
     requires { ⌜ at ≤ length (now line) ⌝ ∗ ⌜ length (now line) ≤ 200 ⌝ }
-    ensures value { λ r. ⌜ r ≡ figureAt (now (name .entry)) (now (line .entry)) at ⌝ }
+    ensures value { λ r. ⌜ r ≡ fieldAt figureIn (now (name .entry)) (now (line .entry)) at ⌝ }
     ensures within { λ r. ⌜ made r (λ x. x .1 ≤ length (now (line .entry))) ⌝ }
 {
     let start = key(line, at, name)?;
@@ -103,7 +104,7 @@ fn is_name_byte(byte: u8) -> bool
 }
 
 fn all_name_bytes(bytes: &[u8]) -> bool
-    ensures { λ r. ⌜ r ≡ allNameBytes (now (bytes .entry)) ⌝ }
+    ensures { λ r. ⌜ r ≡ every isNameByte (now (bytes .entry)) ⌝ }
 {
     for b in bytes {
         if !is_name_byte(*b) {
@@ -126,7 +127,7 @@ fn is_name(bytes: &[u8]) -> bool
 // The name in a field, a part of the line, and where the field ends.
 pub(crate) fn name_field<'a>(line: &'a [u8], at: usize, name: &[u8]) -> Result<(&'a [u8], usize), LineFault>
     requires { ⌜ at ≤ length (now line) ⌝ ∗ ⌜ length (now line) ≤ 200 ⌝ }
-    ensures value { λ r. ⌜ mapOk nameOf r ≡ nameAt (now (name .entry)) (now (line .entry)) at ⌝ }
+    ensures value { λ r. ⌜ mapOk nameOf r ≡ fieldAt nameIn (now (name .entry)) (now (line .entry)) at ⌝ }
     ensures within { λ r. ⌜ made r (λ x. x .1 ≤ length (now (line .entry))) ⌝ }
 {
     let start = key(line, at, name)?;
@@ -153,7 +154,7 @@ fn letter<L: Letter>(bytes: &[u8], column: usize) -> Result<L, LineFault>
 // What the letter in a field stands for, and where the field ends.
 pub(crate) fn letter_field<L: Letter>(line: &[u8], at: usize, name: &[u8]) -> Result<(L, usize), LineFault>
     requires { ⌜ at ≤ length (now line) ⌝ ∗ ⌜ length (now line) ≤ 200 ⌝ }
-    ensures value { λ r. ⌜ r ≡ letterAt (L·Letter .meant) (now (name .entry)) (now (line .entry)) at ⌝ }
+    ensures value { λ r. ⌜ r ≡ fieldAt (letterIn (L·Letter .meant)) (now (name .entry)) (now (line .entry)) at ⌝ }
     ensures within { λ r. ⌜ made r (λ x. x .1 ≤ length (now (line .entry))) ⌝ }
 {
     let start = key(line, at, name)?;

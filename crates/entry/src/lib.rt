@@ -5,8 +5,9 @@ ghost use lib.ListN.{length};
 ghost use Rattle.std.specs.declared.result.Result.the-variants.{Ok};
 ghost use Rattle.figure.specs.Figure.{andThen};
 ghost use Rattle.entry.specs.Entries.{asked};
+ghost use Rattle.entry.specs.Faults.{mapErr, declineOf};
 ghost use Rattle.entry.specs.Fields.{mapOk, endAt};
-ghost use Rattle.entry.specs.Lines.{restAt, lineOf};
+ghost use Rattle.entry.specs.Lines.{restAt, lineOf, answerTo, Whole};
 
 mod fault;
 mod fields;
@@ -86,4 +87,13 @@ fn read(line: &[u8]) -> Result<Request<'_>, LineFault>
     let first = value(line, 0);
     let word = read_word(first)?;
     rest(word, line, first.len())
+}
+
+// What a line says, or its first fault.
+pub fn read_line(line: &[u8]) -> Result<Request<'_>, LineFault>
+    ensures value { λ r. ⌜ mapOk asked r ≡ lineOf (now (line .entry)) ⌝ }
+    ensures told { λ r. ⌜ mapErr declineOf (mapOk asked r) ≡ answerTo (now (line .entry)) ⌝ }
+    ensures whole { λ r. ⌜ Whole (now (line .entry)) (mapOk asked r) ⌝ }
+{
+    read(line)
 }

@@ -16,10 +16,10 @@ use Rattle.std.specs.declared.result.Result.{Result}
 use Rattle.std.specs.declared.result.Result.the-variants.{Ok, Err}
 use Rattle.figure.specs.declared.FigureFault.{FigureFault}
 use Rattle.figure.specs.declared.FigureFault.the-variants.{Empty, TooLong, LeadingZero, NotDigit}
-use Rattle.figure.specs.Figure.{allDigits, valueAfter, padded, numbered, figureOf, Writes, Exact}
+use Rattle.figure.specs.Figure.{isDigit, every, valueAfter, padded, numbered, figureOf, Writes, Exact}
 use Rattle.figure.proofs.Bind.{ok-past, ok-through}
 
-digits-write : Numerals (λ ds. allDigits ds ≡ true) (valueAfter 0)
+digits-write : Numerals (λ ds. every isDigit ds ≡ true) (valueAfter 0)
 digits-write = numerals-by-fold _ (search needs) valueAfter (search needs)
 
 below-word : (n : ℕ) → n < 10 ^ 15 → n < 2 ^ 64
@@ -51,6 +51,9 @@ decimal-plain n h = elim (cases-lt 0 n) [
     inl more ↦ and-right _ _ (ne-eqb (getD (decimal n) 0 0) 48 (λ e. omega (arith, first-decimal n more (below-word n h))))
   | inr none ↦ and-left _ _ (le-ltb 1 _ (length-decimal-le 1 n (omega arith) (omega arith) (below-word n h))) ]
 
+pub decimal-digits : (n : ℕ) → n < 10 ^ 15 → every isDigit (decimal n) ≡ true
+decimal-digits n h = digits-decimal digits-write n (below-word n h)
+
 figure-of-decimal : (n : ℕ) → n < 10 ^ 15 → figureOf (decimal n) ≡ Ok n
 figure-of-decimal n h =
     let word : n < 2 ^ 64 = below-word n h in
@@ -58,7 +61,7 @@ figure-of-decimal n h =
     cond-false _ _ _ (ne-eqb (length (decimal n)) 0 (λ e. omega arith))
     ∙ cond-false _ _ _ (le-ltb 15 (length (decimal n)) (length-decimal-le 15 n (omega arith) h word))
     ∙ cond-false _ _ _ (decimal-plain n h)
-    ∙ cond-true _ _ _ (digits-decimal digits-write n word)
+    ∙ cond-true _ _ _ (decimal-digits n h)
     ∙ ap Ok (value-decimal digits-write n word)
 
 pub figure-exact : (bs : List ℕ) → Exact bs (figureOf bs)

@@ -21,9 +21,10 @@ andThen (Err e) f = Err e
 abbrev pub isDigit : ℕ → Bool
 isDigit b = leb 48 b && leb b 57
 
-abbrev pub allDigits : List ℕ → Bool
-allDigits [] = true
-allDigits (b ∷ bs) = isDigit b && allDigits bs
+-- each byte passes
+abbrev pub every : (ℕ → Bool) → List ℕ → Bool
+every test [] = true
+every test (b ∷ bs) = test b && every test bs
 
 -- the number that digits write behind those of n
 abbrev pub valueAfter : ℕ → List ℕ → ℕ
@@ -40,7 +41,7 @@ digitOf b = cond (isDigit b) (Ok (b - 48)) (Err NotDigit)
 
 -- the number that bytes write behind the digits of n, all of them digits
 abbrev pub numbered : ℕ → List ℕ → Result ℕ FigureFault
-numbered n bs = cond (allDigits bs) (Ok (valueAfter n bs)) (Err NotDigit)
+numbered n bs = cond (every isDigit bs) (Ok (valueAfter n bs)) (Err NotDigit)
 
 -- 1 to 15 digits, no leading zero but in 0 itself, nothing after
 abbrev pub figureOf : List ℕ → Result ℕ FigureFault
