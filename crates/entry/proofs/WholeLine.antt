@@ -1,16 +1,17 @@
 -- A line is one entry, whole: it is answered exactly as what it writes, and nothing else writes that.
 use mathlib.Core.Bool.{Bool, true, false, cond}
 use mathlib.Core.List.{List, [], _∷_, _++_, append-nil}
+use mathlib.Core.Logic.{_⊎_, inl, inr}
 use mathlib.Core.Path.{_≡_, refl, sym, ap, subst, _∙_}
 use Prim.Native.Nat.{ℕ, _+_, _≤_, _<_}
 use native.Mathlib.Omega.{arith}
 use lib.Chars.{codes}
 use lib.Dec.{ltb}
-use lib.ListN.{length, drop}
+use lib.ListN.{length, take, drop}
 use Rattle.std.specs.shelf.Text.{sameBytes}
 use Rattle.std.proofs.shelf.Equals.{sameBytes-decides}
-use Rattle.std.proofs.shelf.Lists.{drop-all, drop-at, length-drop}
-use Rattle.std.proofs.shelf.Tests.{cond-false, ltb-false, le-ltb}
+use Rattle.std.proofs.shelf.Lists.{drop-all, drop-at, length-drop, length-take-le, take-all}
+use Rattle.std.proofs.shelf.Tests.{cond-true, cond-false, ltb-false, le-ltb, lt-ltb, cases-lt}
 use Rattle.std.specs.declared.result.Result.{Result}
 use Rattle.std.specs.declared.result.Result.the-variants.{Ok, Err}
 use Rattle.figure.specs.Figure.{andThen, every}
@@ -189,3 +190,12 @@ line-whole line = record {
   every = λ a short h. line-complete (row-of a .word) (row-of a .values) line short (row-of a .written line h) ∙ ap Ok (row-of a .says);
   alone = λ a other told k. one-line a line other (line-taken line a told .1) k;
 }
+
+-- the first 201 bytes tell what a line of any length says
+too-long : (line : List ℕ) → 200 < length line → lineOf line ≡ Err (Form 201)
+too-long line over = cond-true _ _ _ (lt-ltb 200 (length line) over)
+
+pub front-tells : (line : List ℕ) → lineOf (take 201 line) ≡ lineOf line
+front-tells line = elim (cases-lt 200 (length line)) [
+    inl over ↦ too-long (take 201 line) (omega (arith, length-take-le 201 line (omega arith))) ∙ sym (too-long line over)
+  | inr fits ↦ ap lineOf (take-all 201 line (omega arith)) ]

@@ -1,7 +1,8 @@
 // One line of a day's list, read in place: an entry, the question for the report, or a fault with its column.
+ghost use mathlib.Core.List.{List};
 ghost use mathlib.Core.Path.{_≡_};
-ghost use Prim.Native.Nat.{_≤_};
-ghost use lib.ListN.{length};
+ghost use Prim.Native.Nat.{ℕ, _≤_};
+ghost use lib.ListN.{length, take};
 ghost use Rattle.std.specs.declared.result.Result.the-variants.{Ok};
 ghost use Rattle.figure.specs.Figure.{andThen};
 ghost use Rattle.entry.specs.Entries.{asked};
@@ -89,11 +90,12 @@ fn read(line: &[u8]) -> Result<Request<'_>, LineFault>
     rest(word, line, first.len())
 }
 
-// What a line says, or its first fault.
+// What a line says, or its first fault. The first 201 bytes of a line tell it.
 pub fn read_line(line: &[u8]) -> Result<Request<'_>, LineFault>
     ensures value { λ r. ⌜ mapOk asked r ≡ lineOf (now (line .entry)) ⌝ }
     ensures told { λ r. ⌜ mapErr declineOf (mapOk asked r) ≡ answerTo (now (line .entry)) ⌝ }
     ensures whole { λ r. ⌜ Whole (now (line .entry)) (mapOk asked r) ⌝ }
+    ensures front { λ r. ⌜ ((all : List ℕ) → now (line .entry) ≡ take 201 all → mapOk asked r ≡ lineOf all) ⌝ }
 {
     read(line)
 }
