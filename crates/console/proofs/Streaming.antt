@@ -51,8 +51,9 @@ take-room p q m h = let e : m ≡ length p + (m - length p) = omega arith in ap 
 
 take-min : (q : List ℕ) (k : ℕ) → take (min (length q) k) q ≡ take k q
 take-min q k = elim (cases-lt (length q) k) [
-    inl few ↦ let e : min (length q) k ≡ length q = omega arith in ap (λ n. take n q) e ∙ take-all (length q) q (omega arith) ∙ sym (take-all k q (omega arith))
-  | inr many ↦ let e : min (length q) k ≡ k = omega arith in ap (λ n. take n q) e ]
+  | inl few ↦ let e : min (length q) k ≡ length q = omega arith in ap (λ n. take n q) e ∙ take-all (length q) q (omega arith) ∙ sym (take-all k q (omega arith))
+  | inr many ↦ let e : min (length q) k ≡ k = omega arith in ap (λ n. take n q) e
+]
 
 pub stored : (xs part ys : List ℕ) (size a k n : ℕ) → a ≤ size → length xs ≡ size → n ≡ min (length part) (size - a) → ys ≡ take n part → take (a + n) (putMid a k xs ys) ≡ take size (take a xs ++ part)
 stored xs part ys size a k n fits all is copied =
@@ -65,11 +66,12 @@ stored xs part ys size a k n fits all is copied =
 -- what is cut off a front is not missed by a longer one
 pub kept-again : (begun more : List ℕ) (m : ℕ) → take m (take m begun ++ more) ≡ take m (begun ++ more)
 kept-again begun more m = elim (cases-lt (length begun) m) [
-    inl few ↦ ap (λ l. take m (l ++ more)) (take-all m begun (omega arith))
+  | inl few ↦ ap (λ l. take m (l ++ more)) (take-all m begun (omega arith))
   | inr many ↦
       take-append-le m (take m begun) more (omega (arith, length-take-le m begun many))
       ∙ take-take m m begun (omega arith)
-      ∙ sym (take-append-le m begun more many) ]
+      ∙ sym (take-append-le m begun more many)
+]
 
 pub goes-on : (n : ℕ) (before block after : List ℕ) (rest : Option (List ℕ)) → after ≡ take n (before ++ lineFront block) → rest ≡ lineRest block → GoesOn n before block after rest
 goes-on n before block after rest keeps is = record {

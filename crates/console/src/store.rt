@@ -10,7 +10,10 @@ impl Front {
     pub fn new() -> Front
         ensures { λ r. ⌜ kept r ≡ [] ⌝ }
     {
-        Front { bytes: [0; SIZE], len: 0 }
+        Front {
+            bytes: [0; SIZE],
+            len: 0,
+        }
     }
 
     // The bytes that are held.
@@ -31,7 +34,8 @@ impl Front {
         ensures { λ _. ⌜ kept (now (self .exit)) ≡ take 201 (kept (now (self .entry)) ++ now (part .entry)) ⌝ }
     {
         let n = part.len().min(SIZE - self.len);
-        self.bytes[self.len..self.len + n].copy_from_slice(&part[..n]);
+        self.bytes[self.len..self.len + n]
+            .copy_from_slice(&part[..n]);
         self.len += n;
     }
 }

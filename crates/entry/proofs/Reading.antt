@@ -45,23 +45,32 @@ module _ {A : Type 0} (reader : ℕ → List ℕ → Result A LineFault) (Valid 
       let pair : _≡_ {A = A × ℕ} (r .value, k .value + length (valueAt line (k .value))) (v, end) = cc (r .rest) in
       let s = reads .sound (k .value + 1) (valueAt line (k .value)) (r .value) (r .first) in
       let value : valueAt line (k .value) ≡ shown v = s .1 ∙ ap (λ x. shown (x .0)) pair in
-      let place : drop (length (valueAt line (k .value))) (drop (k .value) line) ≡ drop end line = drop-drop (length (valueAt line (k .value))) (k .value) line ∙ ap (λ x. drop (x .1) line) pair in
-      (subst (λ x. Valid (x .0)) pair (s .0),
-      key-stands key line at (k .value) (k .first)
-      ∙ ap (keyed key) (value-stands (drop (k .value) line) ∙ ap (λ x. x ++ drop (length (valueAt line (k .value))) (drop (k .value) line)) value ∙ ap (λ x. shown v ++ x) place)
-      ∙ ap (λ x. 32 ∷ x) (sym (append-assoc key (shown v) (drop end line))))
+      let place : drop (length (valueAt line (k .value))) (drop (k .value) line) ≡ drop end line = drop-drop (length (valueAt line (k .value))) (k .value) line ∙ ap (λ x. drop (x .1) line) pair in (
+        subst (λ x. Valid (x .0)) pair (s .0),
+        key-stands key line at (k .value) (k .first)
+            ∙ ap (keyed key) (value-stands (drop (k .value) line) ∙ ap (λ x. x ++ drop (length (valueAt line (k .value))) (drop (k .value) line)) value ∙ ap (λ x. shown v ++ x) place)
+            ∙ ap (λ x. 32 ∷ x) (sym (append-assoc key (shown v) (drop end line))),
+      )
 
-  keyed-complete : (line : List ℕ) (at : ℕ) (v : A) (rest : List ℕ) → Valid v → drop at line ≡ keyed key (shown v) ++ rest → Stops rest → fieldAt reader key line at ≡ Ok (v, at + length (keyed key (shown v)))
+  -- the key stands there, and its value is what shows v
+  value-read :
+      (line : List ℕ) (at : ℕ) (v : A) (start : ℕ) →
+      Valid v → keyAt key line at ≡ Ok start → valueAt line start ≡ shown v → fieldAt reader key line at ≡ Ok (v, start + length (shown v))
+  value-read line at v start valid found value =
+      ap (λ r. andThen r (λ s. andThen (reader (s + 1) (valueAt line s)) (λ x. Ok (x, s + length (valueAt line s))))) found
+      ∙ ap (λ bs. andThen (reader (start + 1) bs) (λ x. Ok (x, start + length bs))) value
+      ∙ ap (λ r. andThen r (λ x. Ok (x, start + length (shown v)))) (reads .complete (start + 1) v valid)
+
+  keyed-complete :
+      (line : List ℕ) (at : ℕ) (v : A) (rest : List ℕ) →
+      Valid v → drop at line ≡ keyed key (shown v) ++ rest → Stops rest → fieldAt reader key line at ≡ Ok (v, at + length (keyed key (shown v)))
   keyed-complete line at v rest valid stands stops =
       let here : drop at line ≡ keyed key (shown v ++ rest) = stands ∙ ap (λ x. 32 ∷ x) (append-assoc key (shown v) rest) in
       let place : at + 1 + length key ≡ at + length (32 ∷ key) = omega arith in
       let after : drop (at + 1 + length key) line ≡ shown v ++ rest = ap (λ p. drop p line) place ∙ behind line (32 ∷ key) (shown v ++ rest) at here in
       let value : valueAt line (at + 1 + length key) ≡ shown v = ap word after ∙ value-is (shown v) rest (reads .unbroken v valid) stops in
       let end : at + 1 + length key + length (shown v) ≡ at + length (keyed key (shown v)) = omega (arith, length-append key (shown v)) in
-      ap (λ r. andThen r (λ start. andThen (reader (start + 1) (valueAt line start)) (λ x. Ok (x, start + length (valueAt line start))))) (key-is key line at (shown v ++ rest) here)
-      ∙ ap (λ bs. andThen (reader (at + 1 + length key + 1) bs) (λ x. Ok (x, at + 1 + length key + length bs))) value
-      ∙ ap (λ r. andThen r (λ x. Ok (x, at + 1 + length key + length (shown v)))) (reads .complete (at + 1 + length key + 1) v valid)
-      ∙ ap (λ n. Ok (v, n)) end
+      value-read line at v (at + 1 + length key) valid (key-is key line at (shown v ++ rest) here) value ∙ ap (λ n. Ok (v, n)) end
 
   pub reads-keyed : Reads (record { Value = A; read = fieldAt reader key; Valid = Valid; text = λ v. keyed key (shown v) })
   reads-keyed = record { sound = keyed-sound; complete = keyed-complete; begins = λ v rest. refl }

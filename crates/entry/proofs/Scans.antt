@@ -22,9 +22,9 @@ module _ (line : List ℕ) (end : ℕ) where
         let one : end + 1 - at ≡ (end - at) + 1 = omega arith in
         let place : at + (end - at) ≡ end = omega arith in
         let more : take (end + 1 - at) (drop at line) ≡ take (end - at) (drop at line) ++ getD line end 0 ∷ [] =
-            ap (λ n. take n (drop at line)) one
-            ∙ take-more (drop at line) (end - at) 0 (omega (arith, length-drop at line))
-            ∙ ap (λ x. take (end - at) (drop at line) ++ x ∷ []) (getD-drop at line (end - at) 0 ∙ ap (λ i. getD line i 0) place) in
+        ap (λ n. take n (drop at line)) one
+        ∙ take-more (drop at line) (end - at) 0 (omega (arith, length-drop at line))
+        ∙ ap (λ x. take (end - at) (drop at line) ++ x ∷ []) (getD-drop at line (end - at) 0 ∙ ap (λ i. getD line i 0) place) in
         sofar ∙ ap (λ r. take (end - at) (drop at line) ++ r) (word-more h ne)
         ∙ sym (append-assoc (take (end - at) (drop at line)) (getD line end 0 ∷ []) (word (drop (end + 1) line)))
         ∙ sym (ap (λ t. t ++ word (drop (end + 1) line)) more)

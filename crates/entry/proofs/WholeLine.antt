@@ -118,18 +118,19 @@ line-sound line a told =
     let first = through (wordIn words (valueAt line 0)) (λ w. restAt w line (length (valueAt line 0))) a (short .1) in
     let rest = rest-sound (first .value) line (length (valueAt line 0)) a (first .rest) in
     let text : line ≡ wordText (first .value) ++ texts (fieldsOf (first .value)) (rest .values) =
-        value-stands line
-        ∙ ap (λ v. v ++ drop (length (valueAt line 0)) line) (word-sound words (valueAt line 0) (first .value) (first .first))
-        ∙ ap (λ r. wordText (first .value) ++ r) (rest .stands) in
-    (ltb-false 200 (length line) (short .0),
-    record { word = first .value; values = rest .values; written = record { valid = rest .valid; text = text }; says = rest .says })
+    value-stands line
+    ∙ ap (λ v. v ++ drop (length (valueAt line 0)) line) (word-sound words (valueAt line 0) (first .value) (first .first))
+    ∙ ap (λ r. wordText (first .value) ++ r) (rest .stands) in (
+      ltb-false 200 (length line) (short .0),
+      record { word = first .value; values = rest .values; written = record { valid = rest .valid; text = text }; says = rest .says },
+    )
 
 line-complete : (w : Word) (vs : Values (fieldsOf w)) (line : List ℕ) → length line ≤ 200 → Written w vs line → lineOf line ≡ Ok (saidBy w vs)
 line-complete w vs line short written =
     let stops : Stops (texts (fieldsOf w) vs) = subst Stops (append-nil (texts (fieldsOf w) vs)) (stops-before (fieldsOf w) (fields-read w) vs [] tt) in
     let first : valueAt line 0 ≡ wordText w = ap word (written .text) ∙ value-is (wordText w) (texts (fieldsOf w) vs) (unbroken-from-every isSmall refl (wordText w) (word-found w .1)) stops in
     let rest : drop (length (valueAt line 0)) line ≡ texts (fieldsOf w) vs =
-        ap (λ v. drop (length v) line) first ∙ ap (drop (length (wordText w))) (written .text) ∙ drop-at (wordText w) (texts (fieldsOf w) vs) (length (wordText w)) refl in
+    ap (λ v. drop (length v) line) first ∙ ap (drop (length (wordText w))) (written .text) ∙ drop-at (wordText w) (texts (fieldsOf w) vs) (length (wordText w)) refl in
     cond-false _ _ _ (le-ltb 200 (length line) short)
     ∙ ap (λ v. andThen (wordIn words v) (λ u. restAt u line (length (valueAt line 0)))) first
     ∙ ap (λ r. andThen r (λ u. restAt u line (length (valueAt line 0)))) (word-found w .0)
@@ -197,5 +198,6 @@ too-long line over = cond-true _ _ _ (lt-ltb 200 (length line) over)
 
 pub front-tells : (line : List ℕ) → lineOf (take 201 line) ≡ lineOf line
 front-tells line = elim (cases-lt 200 (length line)) [
-    inl over ↦ too-long (take 201 line) (omega (arith, length-take-le 201 line (omega arith))) ∙ sym (too-long line over)
-  | inr fits ↦ ap lineOf (take-all 201 line (omega arith)) ]
+  | inl over ↦ too-long (take 201 line) (omega (arith, length-take-le 201 line (omega arith))) ∙ sym (too-long line over)
+  | inr fits ↦ ap lineOf (take-all 201 line (omega arith))
+]

@@ -15,21 +15,21 @@ use Rattle.entry.specs.declared.types.Side.{Side}
 use Rattle.entry.specs.declared.types.Side.the-variants.{Buy, Sell}
 
 abbrev pub kindLetter : Kind → ℕ
-kindLetter Futures = 70 -- F
-kindLetter Options = 79 -- O
+kindLetter Futures = 70  -- F
+kindLetter Options = 79  -- O
 
 abbrev pub rightLetter : Right → ℕ
-rightLetter Neither = 78 -- N
-rightLetter Call = 67 -- C
-rightLetter Put = 80 -- P
+rightLetter Neither = 78  -- N
+rightLetter Call = 67  -- C
+rightLetter Put = 80  -- P
 
 abbrev pub sideLetter : Side → ℕ
-sideLetter Buy = 66 -- B
-sideLetter Sell = 83 -- S
+sideLetter Buy = 66  -- B
+sideLetter Sell = 83  -- S
 
 abbrev pub effectLetter : Effect → ℕ
-effectLetter Opening = 79 -- O
-effectLetter Closing = 67 -- C
+effectLetter Opening = 79  -- O
+effectLetter Closing = 67  -- C
 
 -- the first of the cases whose letter it is
 abbrev pub caseOf : {A : Type 0} → (A → ℕ) → List A → ℕ → Option A

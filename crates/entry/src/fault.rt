@@ -23,8 +23,8 @@ pub enum LineFault {
 pub impl From<Misfigure> for LineFault as LineFromFigure {
     ghost converts = { λ f r. r ≡ Figure f };
 
-    fn from(f: Misfigure) -> LineFault {
-        LineFault::Figure(f)
+    fn from(fault: Misfigure) -> LineFault {
+        LineFault::Figure(fault)
     }
 }
 
@@ -42,8 +42,18 @@ impl LineFault {
         ensures { λ r. ⌜ r ≡ declineOf (now (self .entry)) ⌝ }
     {
         match self {
-            LineFault::Figure(f) => Decline { number: 1, layer: 1, at: f.at, short: 0 },
-            LineFault::Form { at } => Decline { number: 2, layer: 2, at: *at, short: 0 },
+            LineFault::Figure(f) => Decline {
+                number: 1,
+                layer: 1,
+                at: f.at,
+                short: 0,
+            },
+            LineFault::Form { at } => Decline {
+                number: 2,
+                layer: 2,
+                at: *at,
+                short: 0,
+            },
         }
     }
 }

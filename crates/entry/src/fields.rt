@@ -41,11 +41,7 @@ fn byte_at(line: &[u8], at: usize) -> u8
     ensures value { λ r. ⌜ r ≡ getD (now (line .entry)) at 0 ⌝ }
     ensures past { λ r. ⌜ (length (now (line .entry)) ≤ at → r ≡ 0) ⌝ }
 {
-    if at < line.len() {
-        line[at]
-    } else {
-        0
-    }
+    if at < line.len() { line[at] } else { 0 }
 }
 
 // Whether the key stands at a place.
@@ -125,7 +121,11 @@ fn is_name(bytes: &[u8]) -> bool
 }
 
 // The name in a field, a part of the line, and where the field ends.
-pub(crate) fn name_field<'a>(line: &'a [u8], at: usize, name: &[u8]) -> Result<(&'a [u8], usize), LineFault>
+pub(crate) fn name_field<'a>(
+    line: &'a [u8],
+    at: usize,
+    name: &[u8],
+) -> Result<(&'a [u8], usize), LineFault>
     requires { ⌜ at ≤ length (now line) ⌝ ∗ ⌜ length (now line) ≤ 200 ⌝ }
     ensures value { λ r. ⌜ mapOk nameOf r ≡ fieldAt nameIn (now (name .entry)) (now (line .entry)) at ⌝ }
     ensures within { λ r. ⌜ made r (λ x. x .1 ≤ length (now (line .entry))) ⌝ }
@@ -152,7 +152,11 @@ fn letter<L: Letter>(bytes: &[u8], column: usize) -> Result<L, LineFault>
 }
 
 // What the letter in a field stands for, and where the field ends.
-pub(crate) fn letter_field<L: Letter>(line: &[u8], at: usize, name: &[u8]) -> Result<(L, usize), LineFault>
+pub(crate) fn letter_field<L: Letter>(
+    line: &[u8],
+    at: usize,
+    name: &[u8],
+) -> Result<(L, usize), LineFault>
     requires { ⌜ at ≤ length (now line) ⌝ ∗ ⌜ length (now line) ≤ 200 ⌝ }
     ensures value { λ r. ⌜ r ≡ fieldAt (letterIn (L·Letter .meant)) (now (name .entry)) (now (line .entry)) at ⌝ }
     ensures within { λ r. ⌜ made r (λ x. x .1 ≤ length (now (line .entry))) ⌝ }
@@ -168,8 +172,9 @@ pub(crate) fn ended(line: &[u8], at: usize) -> Result<(), LineFault>
     requires { ⌜ at ≤ length (now line) ⌝ ∗ ⌜ length (now line) ≤ 200 ⌝ }
     ensures { λ r. ⌜ r ≡ endAt (now (line .entry)) at ⌝ }
 {
-    if at < line.len() {
-        return Err(LineFault::Form { at: at + 1 });
+    if at >= line.len() {
+        Ok(())
+    } else {
+        Err(LineFault::Form { at: at + 1 })
     }
-    Ok(())
 }

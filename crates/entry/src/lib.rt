@@ -20,14 +20,6 @@ mod words;
 pub use fault::Decline;
 pub use fault::LineFault;
 pub use fault::Misfigure;
-pub use types::Effect;
-pub use types::Entry;
-pub use types::Kind;
-pub use types::Request;
-pub use types::Right;
-pub use types::Side;
-pub use types::Terms;
-
 use fields::LONGEST;
 use fields::ended;
 use fields::value;
@@ -42,6 +34,13 @@ use lines::order_line;
 use lines::product_line;
 use lines::spot_line;
 use lines::withdraw_line;
+pub use types::Effect;
+pub use types::Entry;
+pub use types::Kind;
+pub use types::Request;
+pub use types::Right;
+pub use types::Side;
+pub use types::Terms;
 use words::Word;
 use words::read_word;
 
@@ -98,4 +97,40 @@ pub fn read_line(line: &[u8]) -> Result<Request<'_>, LineFault>
     ensures front { λ r. ⌜ ((all : List ℕ) → now (line .entry) ≡ take 201 all → mapOk asked r ≡ lineOf all) ⌝ }
 {
     read(line)
+}
+
+#[cfg(test)]
+mod tests {
+    use super::*;
+    use crate::fault::DeclineDebug;
+    use crate::fault::DeclinePartialEq;
+    use std::test::*;
+
+    #[test]
+    fn a_name_is_a_part_of_the_line() -> Result<(), Fail> {
+        let line = b"mark contract=TXB price=7650";
+        match read_line(line) {
+            Ok(Request::Enter(Entry::Mark { contract, price })) => {
+                check(contract == &line[14..17])?;
+                check_eq(price, 7650)
+            }
+            _ => Err("a mark is not read".into()),
+        }
+    }
+
+    #[test]
+    fn a_letter_inside_a_figure_is_declined_where_it_begins() -> Result<(), Fail> {
+        match read_line(b"deposit amount=83O00") {
+            Err(fault) => check_eq(
+                fault.decline(),
+                Decline {
+                    number: 1,
+                    layer: 1,
+                    at: 16,
+                    short: 0,
+                },
+            ),
+            _ => Err("it is taken".into()),
+        }
+    }
 }

@@ -34,7 +34,19 @@ fn terms_fields(line: &[u8], at: usize) -> Result<(Terms, usize), LineFault>
     let (ib, at) = figure_field(line, at, b"ib=")?;
     let (ma, at) = figure_field(line, at, b"ma=")?;
     let (mb, at) = figure_field(line, at, b"mb=")?;
-    Ok((Terms { fee, tax, limit, share, ia, ib, ma, mb }, at))
+    Ok((
+        Terms {
+            fee,
+            tax,
+            limit,
+            share,
+            ia,
+            ib,
+            ma,
+            mb,
+        },
+        at,
+    ))
 }
 
 pub(crate) fn product_line(line: &[u8], at: usize) -> Result<Request<'_>, LineFault>
@@ -47,7 +59,13 @@ pub(crate) fn product_line(line: &[u8], at: usize) -> Result<Request<'_>, LineFa
     let (terms, at) = terms_fields(line, at)?;
     let (spot, at) = figure_field(line, at, b"spot=")?;
     ended(line, at)?;
-    Ok(Request::Enter(Entry::Product { name, kind, tick, terms, spot }))
+    Ok(Request::Enter(Entry::Product {
+        name,
+        kind,
+        tick,
+        terms,
+        spot,
+    }))
 }
 
 pub(crate) fn contract_line(line: &[u8], at: usize) -> Result<Request<'_>, LineFault>
@@ -62,7 +80,15 @@ pub(crate) fn contract_line(line: &[u8], at: usize) -> Result<Request<'_>, LineF
     let (ceiling, at) = figure_field(line, at, b"ceiling=")?;
     let (mark, at) = figure_field(line, at, b"mark=")?;
     ended(line, at)?;
-    Ok(Request::Enter(Entry::Contract { name, product, right, strike, floor, ceiling, mark }))
+    Ok(Request::Enter(Entry::Contract {
+        name,
+        product,
+        right,
+        strike,
+        floor,
+        ceiling,
+        mark,
+    }))
 }
 
 pub(crate) fn announce_line(line: &[u8], at: usize) -> Result<Request<'_>, LineFault>
@@ -83,7 +109,11 @@ pub(crate) fn band_line(line: &[u8], at: usize) -> Result<Request<'_>, LineFault
     let (floor, at) = figure_field(line, at, b"floor=")?;
     let (ceiling, at) = figure_field(line, at, b"ceiling=")?;
     ended(line, at)?;
-    Ok(Request::Enter(Entry::Band { contract, floor, ceiling }))
+    Ok(Request::Enter(Entry::Band {
+        contract,
+        floor,
+        ceiling,
+    }))
 }
 
 pub(crate) fn spot_line(line: &[u8], at: usize) -> Result<Request<'_>, LineFault>
@@ -143,7 +173,13 @@ pub(crate) fn order_line(line: &[u8], at: usize) -> Result<Request<'_>, LineFaul
     let (lots, at) = figure_field(line, at, b"lots=")?;
     let (price, at) = figure_field(line, at, b"price=")?;
     ended(line, at)?;
-    Ok(Request::Enter(Entry::Order { contract, side, effect, lots, price }))
+    Ok(Request::Enter(Entry::Order {
+        contract,
+        side,
+        effect,
+        lots,
+        price,
+    }))
 }
 
 pub(crate) fn fill_line(line: &[u8], at: usize) -> Result<Request<'_>, LineFault>

@@ -44,17 +44,60 @@ pub struct Terms {
 // What writes to an account; a name is a part of the line that was read.
 #[derive(Clone, Copy, Drop)]
 pub enum Entry<'a> {
-    Product { name: &'a [u8], kind: Kind, tick: u64, terms: Terms, spot: u64 },
-    Contract { name: &'a [u8], product: &'a [u8], right: Right, strike: u64, floor: u64, ceiling: u64, mark: u64 },
-    Announce { name: &'a [u8], terms: Terms },
-    Band { contract: &'a [u8], floor: u64, ceiling: u64 },
-    Spot { product: &'a [u8], price: u64 },
-    Mark { contract: &'a [u8], price: u64 },
-    Deposit { amount: u64 },
-    Withdraw { amount: u64 },
-    Cancel { order: u64 },
-    Order { contract: &'a [u8], side: Side, effect: Effect, lots: u64, price: u64 },
-    Fill { order: u64, lots: u64, price: u64 },
+    Product {
+        name: &'a [u8],
+        kind: Kind,
+        tick: u64,
+        terms: Terms,
+        spot: u64,
+    },
+    Contract {
+        name: &'a [u8],
+        product: &'a [u8],
+        right: Right,
+        strike: u64,
+        floor: u64,
+        ceiling: u64,
+        mark: u64,
+    },
+    Announce {
+        name: &'a [u8],
+        terms: Terms,
+    },
+    Band {
+        contract: &'a [u8],
+        floor: u64,
+        ceiling: u64,
+    },
+    Spot {
+        product: &'a [u8],
+        price: u64,
+    },
+    Mark {
+        contract: &'a [u8],
+        price: u64,
+    },
+    Deposit {
+        amount: u64,
+    },
+    Withdraw {
+        amount: u64,
+    },
+    Cancel {
+        order: u64,
+    },
+    Order {
+        contract: &'a [u8],
+        side: Side,
+        effect: Effect,
+        lots: u64,
+        price: u64,
+    },
+    Fill {
+        order: u64,
+        lots: u64,
+        price: u64,
+    },
     Open,
     Close,
     Deadline,

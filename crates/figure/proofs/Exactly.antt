@@ -28,28 +28,34 @@ below-word n h = omega arith
 -- where a first 0 is no fault it stands alone
 alone : (bs : List ℕ) → padded bs ≡ false → getD bs 0 0 ≡ 48 → length bs ≤ 1
 alone bs plain first = elim (cases-lt 1 (length bs)) [
-    inl more ↦ absurd (both-ways (padded bs) plain (and-from _ _ (lt-ltb 1 (length bs) more) (eq-eqb _ 48 first)))
-  | inr few ↦ few ]
+  | inl more ↦ absurd (both-ways (padded bs) plain (and-from _ _ (lt-ltb 1 (length bs) more) (eq-eqb _ 48 first)))
+  | inr few ↦ few
+]
+
+-- digits that keep the rules are what printing their value gives
+digits-are-written :
+    (bs : List ℕ) →
+    (length bs ≡ 0 → ⊥) → length bs ≤ 15 → padded bs ≡ false → every isDigit bs ≡ true → Writes (valueAfter 0 bs) bs
+digits-are-written bs some short plain digits =
+    let small : valueAfter 0 bs < 10 ^ 15 = value-short digits-write bs 15 digits short in
+    let single : getD bs 0 0 ≡ 48 → length bs ≡ 1 = λ first. omega (arith, alone bs plain first) in
+    (sym (decimal-value digits-write bs digits (omega arith) single (below-word (valueAfter 0 bs) small)), small)
 
 writes-from-figure : (bs : List ℕ) (n : ℕ) → figureOf bs ≡ Ok n → Writes n bs
 writes-from-figure bs n told =
-    let some = ok-past n Empty _ _ told in
-    let short = ok-past n TooLong _ _ (some .1) in
-    let plain = ok-past n LeadingZero _ _ (short .1) in
-    let digits = ok-through n NotDigit _ _ (plain .1) in
+    let some = ok-past n Empty (eqb (length bs) 0) _ told in
+    let short = ok-past n TooLong (ltb 15 (length bs)) _ (some .1) in
+    let plain = ok-past n LeadingZero (padded bs) (numbered 0 bs) (short .1) in
+    let digits = ok-through n NotDigit (every isDigit bs) (Ok (valueAfter 0 bs)) (plain .1) in
     let value : valueAfter 0 bs ≡ n = cc (digits .1) in
-    let few : length bs ≤ 15 = ltb-false 15 (length bs) (short .0) in
-    let any : 0 < length bs = omega (arith, eqb-false (length bs) 0 (some .0)) in
-    let small : valueAfter 0 bs < 10 ^ 15 = value-short digits-write bs 15 (digits .0) few in
-    let single : getD bs 0 0 ≡ 48 → length bs ≡ 1 = λ first. omega (arith, alone bs (plain .0) first) in
-    let again : decimal (valueAfter 0 bs) ≡ bs = decimal-value digits-write bs (digits .0) any single (below-word _ small) in
-    (sym again ∙ ap decimal value, subst (λ v. v < 10 ^ 15) value small)
+    subst (λ v. Writes v bs) value (digits-are-written bs (eqb-false (length bs) 0 (some .0)) (ltb-false 15 (length bs) (short .0)) (plain .0) (digits .0))
 
 -- a number above 0 begins with no 0, and 0 is a single digit
 decimal-plain : (n : ℕ) → n < 10 ^ 15 → padded (decimal n) ≡ false
 decimal-plain n h = elim (cases-lt 0 n) [
-    inl more ↦ and-right _ _ (ne-eqb (getD (decimal n) 0 0) 48 (λ e. omega (arith, first-decimal n more (below-word n h))))
-  | inr none ↦ and-left _ _ (le-ltb 1 _ (length-decimal-le 1 n (omega arith) (omega arith) (below-word n h))) ]
+  | inl more ↦ and-right _ _ (ne-eqb (getD (decimal n) 0 0) 48 (λ e. omega (arith, first-decimal n more (below-word n h))))
+  | inr none ↦ and-left _ _ (le-ltb 1 _ (length-decimal-le 1 n (omega arith) (omega arith) (below-word n h)))
+]
 
 pub decimal-digits : (n : ℕ) → n < 10 ^ 15 → every isDigit (decimal n) ≡ true
 decimal-digits n h = digits-decimal digits-write n (below-word n h)

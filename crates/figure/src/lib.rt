@@ -75,3 +75,19 @@ pub extern "C" fn margin_figure(bytes: &[u8]) -> i64
         Err(_) => -1,
     }
 }
+
+#[cfg(test)]
+mod tests {
+    use super::*;
+    use std::test::*;
+
+    #[test]
+    fn a_figure_is_read_whole_or_not_at_all() -> Result<(), Fail> {
+        check_eq(read_figure(b"83000"), Ok(83000))?;
+        check_eq(read_figure(b"83O00"), Err(FigureFault::NotDigit))?;
+        check_eq(read_figure(b"07"), Err(FigureFault::LeadingZero))?;
+        check_eq(margin_figure(b"999999999999999"), 999999999999999)?;
+        check_eq(margin_figure(b"1000000000000000"), -1)?;
+        check_eq(margin_figure(b""), -1)
+    }
+}

@@ -37,7 +37,12 @@ impl Desk {
         ensures number { λ r. ⌜ r .number ≡ 0 ⌝ }
         ensures out { λ r. ⌜ vec-items (r .out) ≡ [] ⌝ }
     {
-        Desk { line: Front::new(), number: 0, text: Front::new(), out: Vec::new(heap) }
+        Desk {
+            line: Front::new(),
+            number: 0,
+            text: Front::new(),
+            out: Vec::new(heap),
+        }
     }
 
     // Answers the line that has begun, and begins the next.

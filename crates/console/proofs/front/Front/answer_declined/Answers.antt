@@ -22,7 +22,8 @@ returns c =
     let four = put-more (line ++ number ++ layer) at (kept (c .put-field-3 .last .self)) (kept (c .put-field-4 .last .self)) three (c .put-field-4 .ensures) in
     let five = put-more (line ++ number ++ layer ++ at) short (kept (c .put-field-4 .last .self)) (kept (c .put-field-5 .last .self)) four (c .put-field-5 .ensures) in
     let all = put-more (line ++ number ++ layer ++ at ++ short) lineFeed (kept (c .put-field-5 .last .self)) (kept (c .put .last .self)) five (c .put .ensures) in
-    all ∙ take-all 201 (declineText (c .args .line) (c .args .decline)) (omega (arith,
+    all ∙ take-all 201 (declineText (c .args .line) (c .args .decline)) (omega (
+      arith,
       length-append (line ++ number ++ layer ++ at ++ short) lineFeed,
       length-append (line ++ number ++ layer ++ at) short,
       length-append (line ++ number ++ layer) at,
@@ -32,4 +33,5 @@ returns c =
       field-length (codes " refused=") (c .args .decline .number) (omega arith),
       field-length (codes " layer=") (c .args .decline .layer) (omega arith),
       field-length (codes " at=") (c .args .decline .at) (omega arith),
-      field-length (codes " short=") (c .args .decline .short) (omega arith)))
+      field-length (codes " short=") (c .args .decline .short) (omega arith),
+    ))

@@ -19,9 +19,9 @@ returns-then-end-block c =
     let end : c .line-end-end .result ≡ length (lineFront (c .args .block .now)) = c .line-end-end .ensures .value in
     let inside : length (lineFront (c .args .block .now)) < length (c .args .block .now) = omega arith in
     let behind : take (length (c .args .block .now) - (c .line-end-end .result + 1)) (drop (c .line-end-end .result + 1) (c .args .block .now)) ≡ drop (c .line-end-end .result + 1) (c .args .block .now) =
-        take-rest (c .args .block .now) (c .line-end-end .result + 1) in
+    take-rest (c .args .block .now) (c .line-end-end .result + 1) in
     let rest : Some (take (length (c .args .block .now) - (c .line-end-end .result + 1)) (drop (c .line-end-end .result + 1) (c .args .block .now))) ≡ lineRest (c .args .block .now) =
-        ap Some behind ∙ ap (λ n. Some (drop (n + 1) (c .args .block .now))) end ∙ sym (cut (c .args .block .now) .ends inside) in
+    ap Some behind ∙ ap (λ n. Some (drop (n + 1) (c .args .block .now))) end ∙ sym (cut (c .args .block .now) .ends inside) in
     record {
       kept = keeps (need.at·returns-then-end-block c .After-put);
       rest = rest;

@@ -16,7 +16,7 @@ returns-then-is-empty c = λ begun is.
 pub returns : need.returns
 returns c = made-weaker (c .answer .result) _ _
     (λ x answered begun is.
-        last-printed (c .args .self .now .number) (kept (c .args .self .now .line)) begun (vec-items (c .args .self .now .out)) _ is
-        (λ none. eqb-false (length (c .as-slice .result .now)) 0 (sym (c .is-empty .ensures) ∙ c .if-is-empty .left) (ap length (c .as-slice .ensures ∙ none)))
-        answered)
+    last-printed (c .args .self .now .number) (kept (c .args .self .now .line)) begun (vec-items (c .args .self .now .out)) _ is
+    (λ none. eqb-false (length (c .as-slice .result .now)) 0 (sym (c .is-empty .ensures) ∙ c .if-is-empty .left) (ap length (c .as-slice .ensures ∙ none)))
+    answered)
     (c .answer .ensures .out)
