@@ -2,7 +2,7 @@
 use mathlib.Core.Bool.{Bool, true, false, cond, _&&_}
 use mathlib.Core.List.{List, [], _∷_, _++_}
 use mathlib.Core.Path.{_≡_, refl, sym, ap, subst, _∙_}
-use Prim.Native.Nat.{ℕ, suc, _+_, _<_, _^_}
+use Prim.Native.Nat.{ℕ, _+_, _<_, _^_}
 use native.Mathlib.Omega.{arith}
 use lib.Chars.{codes}
 use lib.Dec.{eqb, leb, ltb}
@@ -18,7 +18,6 @@ use Rattle.figure.specs.Figure.{isDigit, every, figureOf}
 use Rattle.figure.specs.declared.FigureFault.{FigureFault}
 use Rattle.figure.proofs.Bind.{ok-through}
 use Rattle.figure.proofs.Exactly.{figure-exact, decimal-digits}
-use Rattle.entry.specs.declared.fault.LineFault.{LineFault}
 use Rattle.entry.specs.declared.fault.LineFault.the-variants.{Form}
 use Rattle.entry.specs.declared.types.Effect.{Effect}
 use Rattle.entry.specs.declared.types.Effect.the-variants.{Opening, Closing}
@@ -31,8 +30,8 @@ use Rattle.entry.specs.declared.types.Side.the-variants.{Buy, Sell}
 use Rattle.entry.specs.declared.types.Terms.{Terms}
 use Rattle.entry.specs.Fields.{placed, carried, figureIn, isNameByte, isName, nameIn, orForm, letterIn}
 use Rattle.entry.specs.Letters.{kindLetter, rightLetter, sideLetter, effectLetter, caseOf, kindOf, rightOf, sideOf, effectOf}
-use Rattle.entry.specs.Lines.{Field, figure, name, letter, kind, right, side, effect, Values, Valids, texts, term-fields, termsOf, termValues, termsAt, terms}
-use Rattle.entry.proofs.Values.{Stops, Unbroken, unbroken-from-every}
+use Rattle.entry.specs.Lines.{figure, name, letter, kind, right, side, effect, Valids, texts, term-fields, termsOf, termValues, termsAt, terms}
+use Rattle.entry.proofs.Values.{unbroken-from-every}
 use Rattle.entry.proofs.Reading.{ReadsValue, Reads, reads-keyed, AllRead, fields-sound, fields-complete}
 
 -- figures

@@ -1,24 +1,22 @@
 -- What stands at a place of a line: a key behind a blank, a value up to the next blank.
-use mathlib.Core.Bool.{Bool, true, false, cond, _&&_}
-use mathlib.Core.List.{List, [], _∷_, _++_, append-assoc}
-use mathlib.Core.Logic.{_⊎_, inl, inr}
+use mathlib.Core.Bool.{Bool, true, false, cond}
+use mathlib.Core.List.{List, [], _∷_, _++_}
+use mathlib.Core.Logic.{inl, inr}
 use mathlib.Core.Path.{_≡_, refl, sym, ap, subst, _∙_}
-use Prim.Native.Nat.{ℕ, suc, _+_, _-_, _≤_, _<_}
-use native.Mathlib.Nat.{add-zero, add-assoc}
+use Prim.Native.Nat.{ℕ, _+_, _-_, _<_}
+use native.Mathlib.Nat.{add-zero}
 use native.Mathlib.Omega.{arith}
 use lib.Dec.{eqb}
 use lib.ListN.{length, getD, take, drop}
 use Rattle.std.specs.shelf.Text.{sameBytes}
 use Rattle.std.proofs.shelf.Equals.{sameBytes-decides}
-use Rattle.std.proofs.shelf.Lists.{length-append, length-drop, take-append-drop, drop-drop, drop-more, drop-at, take-at, getD-drop, getD-past}
+use Rattle.std.proofs.shelf.Lists.{take-append-drop, drop-drop, drop-more, drop-at, take-at, getD-drop, getD-past}
 use Rattle.std.proofs.shelf.Tests.{cond-true, cond-false, eqb-true, eq-eqb, ne-eqb, and-parts, both-ways, cases-lt}
-use Rattle.std.specs.declared.result.Result.{Result}
-use Rattle.std.specs.declared.result.Result.the-variants.{Ok, Err}
+use Rattle.std.specs.declared.result.Result.the-variants.{Ok}
 use Rattle.figure.specs.Figure.{every}
 use Rattle.figure.proofs.Bind.{ok-through}
-use Rattle.entry.specs.declared.fault.LineFault.{LineFault}
 use Rattle.entry.specs.declared.fault.LineFault.the-variants.{Form}
-use Rattle.entry.specs.Fields.{word, valueAt, keyAt}
+use Rattle.entry.specs.Fields.{word, keyAt}
 use Rattle.entry.specs.Lines.{keyed}
 
 -- what is left ends a value: nothing, or a blank

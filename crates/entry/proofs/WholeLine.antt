@@ -1,31 +1,28 @@
 -- A line is one entry, whole: it is answered exactly as what it writes, and nothing else writes that.
 use mathlib.Core.Bool.{Bool, true, false, cond}
 use mathlib.Core.List.{List, [], _∷_, _++_, append-nil}
-use mathlib.Core.Logic.{_⊎_, inl, inr}
+use mathlib.Core.Logic.{inl, inr}
 use mathlib.Core.Path.{_≡_, refl, sym, ap, subst, _∙_}
 use Prim.Native.Nat.{ℕ, _+_, _≤_, _<_}
 use native.Mathlib.Omega.{arith}
-use lib.Chars.{codes}
 use lib.Dec.{ltb}
 use lib.ListN.{length, take, drop}
 use Rattle.std.specs.shelf.Text.{sameBytes}
 use Rattle.std.proofs.shelf.Equals.{sameBytes-decides}
 use Rattle.std.proofs.shelf.Lists.{drop-all, drop-at, length-drop, length-take-le, take-all}
 use Rattle.std.proofs.shelf.Tests.{cond-true, cond-false, ltb-false, le-ltb, lt-ltb, cases-lt}
-use Rattle.std.specs.declared.result.Result.{Result}
 use Rattle.std.specs.declared.result.Result.the-variants.{Ok, Err}
 use Rattle.figure.specs.Figure.{andThen, every}
 use Rattle.figure.proofs.Bind.{ok-past}
-use Rattle.entry.specs.declared.fault.LineFault.{LineFault}
 use Rattle.entry.specs.declared.fault.LineFault.the-variants.{Form}
 use Rattle.entry.specs.declared.words.Word.{Word}
 use Rattle.entry.specs.declared.words.Word.the-variants.{Product, Contract, Announce, Band, Spot, Mark, Deposit, Withdraw, Cancel, Order, Fill, Open, Close, Deadline, Report}
-use Rattle.entry.specs.Entries.{Said, lists-product, lists-contract, announces, sets-band, sets-spot, sets-mark, deposits, withdraws, cancels, orders, fills, opens, closes, ends-deadline, Asked, enters, reports}
+use Rattle.entry.specs.Entries.{lists-product, lists-contract, announces, sets-band, sets-spot, sets-mark, deposits, withdraws, cancels, orders, fills, opens, closes, ends-deadline, Asked, enters, reports}
 use Rattle.entry.specs.Fields.{word, valueAt, endAt}
-use Rattle.entry.specs.Lines.{Values, Valids, texts, fieldsAt, fieldsOf, wordText, saidBy, words, wordIn, restAt, lineOf, Written, Writes, Whole}
+use Rattle.entry.specs.Lines.{Values, Valids, texts, fieldsOf, wordText, saidBy, words, wordIn, restAt, lineOf, Written, Writes, Whole}
 use Rattle.entry.proofs.FieldKinds.{reads-figure, reads-name, reads-kind, reads-right, reads-side, reads-effect, reads-terms}
-use Rattle.entry.proofs.Reading.{Through, through, AllRead, Gave, fields-sound, stops-before, fields-complete}
-use Rattle.entry.proofs.Values.{Stops, Unbroken, unbroken-from-every, value-stands, value-is, behind}
+use Rattle.entry.proofs.Reading.{through, AllRead, fields-sound, stops-before, fields-complete}
+use Rattle.entry.proofs.Values.{Stops, unbroken-from-every, value-stands, value-is, behind}
 
 fields-read : (w : Word) → AllRead (fieldsOf w)
 fields-read Product = search (reads-figure, reads-name, reads-kind, reads-terms) depth 12

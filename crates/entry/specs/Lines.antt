@@ -9,21 +9,16 @@ use lib.ListN.{length}
 use Rattle.std.specs.Written.{decimal}
 use Rattle.std.specs.shelf.Text.{sameBytes}
 use Rattle.std.specs.declared.option.Option.{Option}
-use Rattle.std.specs.declared.option.Option.the-variants.{Some}
 use Rattle.std.specs.declared.result.Result.{Result}
 use Rattle.std.specs.declared.result.Result.the-variants.{Ok, Err}
 use Rattle.figure.specs.Figure.{andThen}
 use Rattle.entry.specs.declared.fault.Decline.{Decline}
 use Rattle.entry.specs.declared.fault.LineFault.{LineFault}
 use Rattle.entry.specs.declared.fault.LineFault.the-variants.{Form}
-use Rattle.entry.specs.declared.types.Effect.{Effect}
-use Rattle.entry.specs.declared.types.Kind.{Kind}
-use Rattle.entry.specs.declared.types.Right.{Right}
-use Rattle.entry.specs.declared.types.Side.{Side}
 use Rattle.entry.specs.declared.types.Terms.{Terms}
 use Rattle.entry.specs.declared.words.Word.{Word}
 use Rattle.entry.specs.declared.words.Word.the-variants.{Product as ProductWord, Contract as ContractWord, Announce as AnnounceWord, Band as BandWord, Spot as SpotWord, Mark as MarkWord, Deposit as DepositWord, Withdraw as WithdrawWord, Cancel as CancelWord, Order as OrderWord, Fill as FillWord, Open as OpenWord, Close as CloseWord, Deadline as DeadlineWord, Report as ReportWord}
-use Rattle.entry.specs.Entries.{Said, lists-product, lists-contract, announces, sets-band, sets-spot, sets-mark, deposits, withdraws, cancels, orders, fills, opens, closes, ends-deadline, Asked, enters, reports}
+use Rattle.entry.specs.Entries.{lists-product, lists-contract, announces, sets-band, sets-spot, sets-mark, deposits, withdraws, cancels, orders, fills, opens, closes, ends-deadline, Asked, enters, reports}
 use Rattle.entry.specs.Faults.{mapErr, declineOf}
 use Rattle.entry.specs.Fields.{valueAt, endAt, fieldAt, figureIn, nameIn, letterIn, isName}
 use Rattle.entry.specs.Letters.{kindLetter, rightLetter, sideLetter, effectLetter, kindOf, rightOf, sideOf, effectOf}

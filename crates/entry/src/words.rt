@@ -1,5 +1,4 @@
 // The words that a line begins with.
-ghost use mathlib.Core.List.{List, _∷_, []};
 ghost use mathlib.Core.Path.{_≡_};
 ghost use lib.ListN.{drop};
 ghost use Rattle.entry.specs.Lines.{words, wordIn};

@@ -3,9 +3,7 @@ use mathlib.Core.Bool.{Bool, true, false, cond, _&&_}
 use mathlib.Core.List.{List, _∷_}
 use mathlib.Core.Path.{_≡_, refl}
 use Prim.Native.Nat.{ℕ, _+_, _-_, _*_}
-use Rattle.std.specs.declared.result.Result.{Result}
 use Rattle.std.specs.declared.result.Result.the-variants.{Ok, Err}
-use Rattle.figure.specs.declared.FigureFault.{FigureFault}
 use Rattle.figure.specs.declared.FigureFault.the-variants.{NotDigit}
 use Rattle.figure.specs.Figure.{andThen, isDigit, every, valueAfter, digitOf, numbered}
 

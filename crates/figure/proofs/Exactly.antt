@@ -1,20 +1,18 @@
 -- A figure is read exactly: the bytes are the decimal writing of what is answered, and every such writing is answered.
-use mathlib.Core.Bool.{Bool, true, false, cond, _&&_}
+use mathlib.Core.Bool.{true, false}
 use mathlib.Core.List.{List}
-use mathlib.Core.Logic.{_⊎_, inl, inr}
-use mathlib.Core.Path.{_≡_, refl, sym, ap, subst, _∙_}
-use Prim.Native.Nat.{ℕ, zero, suc, _+_, _*_, _^_, _<_, _≤_}
+use mathlib.Core.Logic.{inl, inr}
+use mathlib.Core.Path.{_≡_, sym, ap, subst, _∙_}
+use Prim.Native.Nat.{ℕ, _^_, _<_, _≤_}
 use native.Mathlib.Omega.{arith}
 use borrow.Author.Needs.{needs}
 use lib.Dec.{eqb, ltb}
 use lib.ListN.{length, getD}
 use Rattle.std.specs.Written.{decimal}
-use Rattle.std.proofs.shelf.Tests.{cond-true, cond-false, ltb-false, eqb-false, eqb-true, le-ltb, lt-ltb, ne-eqb, eq-eqb, and-left, and-right, and-from, cases-lt, both-ways, cases-order}
+use Rattle.std.proofs.shelf.Tests.{cond-true, cond-false, ltb-false, eqb-false, le-ltb, lt-ltb, ne-eqb, eq-eqb, and-left, and-right, and-from, cases-lt, both-ways}
 use Rattle.std.proofs.shelf.Numerals.{Numerals, numerals-by-fold, value-short}
-use Rattle.std.proofs.shelf.Decimals.{decimal-some, length-decimal-le, first-decimal, decimal-digit, digits-decimal, value-decimal, decimal-value}
-use Rattle.std.specs.declared.result.Result.{Result}
-use Rattle.std.specs.declared.result.Result.the-variants.{Ok, Err}
-use Rattle.figure.specs.declared.FigureFault.{FigureFault}
+use Rattle.std.proofs.shelf.Decimals.{decimal-some, length-decimal-le, first-decimal, digits-decimal, value-decimal, decimal-value}
+use Rattle.std.specs.declared.result.Result.the-variants.{Ok}
 use Rattle.figure.specs.declared.FigureFault.the-variants.{Empty, TooLong, LeadingZero, NotDigit}
 use Rattle.figure.specs.Figure.{isDigit, every, valueAfter, padded, numbered, figureOf, Writes, Exact}
 use Rattle.figure.proofs.Bind.{ok-past, ok-through}

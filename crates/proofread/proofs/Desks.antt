@@ -1,13 +1,13 @@
 -- A desk that goes through a block prints what the lines of the input are answered, wherever the input is cut.
 use mathlib.Core.List.{List, [], _∷_, _++_, append-assoc, append-nil}
-use mathlib.Core.Path.{_≡_, refl, sym, ap, _∙_}
+use mathlib.Core.Path.{_≡_, sym, ap, _∙_}
 use Prim.Native.Nat.{ℕ}
 use native.Mathlib.Omega.{arith}
 use lib.ListN.{take}
 use Rattle.std.specs.Of.Vec.{vec-items}
 use Rattle.std.specs.declared.option.Option.the-variants.{Some, None}
 use Rattle.console.specs.Fronts.{kept}
-use Rattle.console.specs.Streams.{lineFront, linesFrom, GoesOn}
+use Rattle.console.specs.Streams.{lineFront, GoesOn}
 use Rattle.proofread.specs.declared.desk.Desk.{Desk}
 use Rattle.proofread.specs.Proof.{proofText, next, answers, printed, Answered}
 

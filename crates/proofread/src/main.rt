@@ -6,7 +6,7 @@ use std::error::AnyError;
 use std::io::Read;
 use std::io::Write;
 
-// Bytes read at a time, and bytes of answers held before they are written.
+// Bytes read at a time.
 const BLOCK: usize = 65536;
 
 // Writes the answers that are held.

@@ -9,7 +9,7 @@ use Rattle.std.specs.declared.result.Result.{Result}
 use Rattle.std.proofs.shelf.Lists.{at-drop-more, at-drop-all}
 use Rattle.std.proofs.shelf.Results.{err-from-errBy, made-from-err}
 use Rattle.figure.specs.declared.FigureFault.{FigureFault}
-use Rattle.figure.specs.Figure.{andThen, digitOf, numbered}
+use Rattle.figure.specs.Figure.{andThen, numbered}
 use Rattle.figure.proofs.Bind.{on-ok, on-err}
 use Rattle.figure.proofs.Digits.{numbered-more}
 use Rattle.figure.proofs.number.Needs as need

@@ -2,7 +2,7 @@ use mathlib.Core.List.{_++_}
 use mathlib.Core.Path.{_≡_, ap, _∙_}
 use native.Mathlib.Omega.{arith}
 use lib.Chars.{codes}
-use lib.ListN.{length, take}
+use lib.ListN.{take}
 use Rattle.std.proofs.shelf.Lists.{length-append, take-all}
 use Rattle.console.specs.Fronts.{kept}
 use Rattle.console.specs.Texts.{field, lineFeed, declineText}
