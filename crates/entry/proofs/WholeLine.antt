@@ -157,22 +157,23 @@ record Row (a : Asked) : Type 0 where
   says : saidBy word values ≡ a
   written : (line : List ℕ) → Writes a line → Written word values line
 
-row-of : (a : Asked) → Row a
-row-of (enters (lists-product name kind tick terms spot)) = record { word = Product; values = (name, (kind, (tick, (terms, (spot, tt))))); says = refl; written = λ line h. h }
-row-of (enters (lists-contract name product right strike floor ceiling mark)) = record { word = Contract; values = (name, (product, (right, (strike, (floor, (ceiling, (mark, tt))))))); says = refl; written = λ line h. h }
-row-of (enters (announces name terms)) = record { word = Announce; values = (name, (terms, tt)); says = refl; written = λ line h. h }
-row-of (enters (sets-band contract floor ceiling)) = record { word = Band; values = (contract, (floor, (ceiling, tt))); says = refl; written = λ line h. h }
-row-of (enters (sets-spot product price)) = record { word = Spot; values = (product, (price, tt)); says = refl; written = λ line h. h }
-row-of (enters (sets-mark contract price)) = record { word = Mark; values = (contract, (price, tt)); says = refl; written = λ line h. h }
-row-of (enters (deposits amount)) = record { word = Deposit; values = (amount, tt); says = refl; written = λ line h. h }
-row-of (enters (withdraws amount)) = record { word = Withdraw; values = (amount, tt); says = refl; written = λ line h. h }
-row-of (enters (cancels order)) = record { word = Cancel; values = (order, tt); says = refl; written = λ line h. h }
-row-of (enters (orders contract side effect lots price)) = record { word = Order; values = (contract, (side, (effect, (lots, (price, tt))))); says = refl; written = λ line h. h }
-row-of (enters (fills order lots price)) = record { word = Fill; values = (order, (lots, (price, tt))); says = refl; written = λ line h. h }
-row-of (enters opens) = record { word = Open; values = tt; says = refl; written = λ line h. h }
-row-of (enters closes) = record { word = Close; values = tt; says = refl; written = λ line h. h }
-row-of (enters ends-deadline) = record { word = Deadline; values = tt; says = refl; written = λ line h. h }
-row-of reports = record { word = Report; values = tt; says = refl; written = λ line h. h }
+-- only what some line writes has a row
+row-of : (a : Asked) (line : List ℕ) → Writes a line → Row a
+row-of (enters (lists-product name kind tick terms spot)) line h = record { word = Product; values = (name, (kind, (tick, (terms, (spot, tt))))); says = refl; written = λ other k. k }
+row-of (enters (lists-contract name product right strike floor ceiling mark)) line h = record { word = Contract; values = (name, (product, (right, (strike, (floor, (ceiling, (mark, tt))))))); says = refl; written = λ other k. k }
+row-of (enters (announces name terms)) line h = record { word = Announce; values = (name, (terms, tt)); says = refl; written = λ other k. k }
+row-of (enters (sets-band contract floor ceiling)) line h = record { word = Band; values = (contract, (floor, (ceiling, tt))); says = refl; written = λ other k. k }
+row-of (enters (sets-spot product price)) line h = record { word = Spot; values = (product, (price, tt)); says = refl; written = λ other k. k }
+row-of (enters (sets-mark contract price)) line h = record { word = Mark; values = (contract, (price, tt)); says = refl; written = λ other k. k }
+row-of (enters (deposits amount)) line h = record { word = Deposit; values = (amount, tt); says = refl; written = λ other k. k }
+row-of (enters (withdraws amount)) line h = record { word = Withdraw; values = (amount, tt); says = refl; written = λ other k. k }
+row-of (enters (cancels order)) line h = record { word = Cancel; values = (order, tt); says = refl; written = λ other k. k }
+row-of (enters (orders contract side effect lots price)) line h = record { word = Order; values = (contract, (side, (effect, (lots, (price, tt))))); says = refl; written = λ other k. k }
+row-of (enters (fills order lots price)) line h = record { word = Fill; values = (order, (lots, (price, tt))); says = refl; written = λ other k. k }
+row-of (enters opens) line h = record { word = Open; values = tt; says = refl; written = λ other k. k }
+row-of (enters closes) line h = record { word = Close; values = tt; says = refl; written = λ other k. k }
+row-of (enters ends-deadline) line h = record { word = Deadline; values = tt; says = refl; written = λ other k. k }
+row-of reports line h = record { word = Report; values = tt; says = refl; written = λ other k. k }
 
 line-taken : (line : List ℕ) (a : Asked) → lineOf line ≡ Ok a → (length line ≤ 200) × Writes a line
 line-taken line a told =
@@ -180,12 +181,12 @@ line-taken line a told =
     (read .0, subst (λ x. Writes x line) (read .1 .says) (writes-said (read .1 .word) (read .1 .values) line (read .1 .written)))
 
 one-line : (a : Asked) (line other : List ℕ) → Writes a line → Writes a other → other ≡ line
-one-line a line other h k = row-of a .written other k .text ∙ sym (row-of a .written line h .text)
+one-line a line other h k = let row = row-of a line h in row .written other k .text ∙ sym (row .written line h .text)
 
 pub line-whole : (line : List ℕ) → Whole line (lineOf line)
 line-whole line = record {
   taken = line-taken line;
-  every = λ a short h. line-complete (row-of a .word) (row-of a .values) line short (row-of a .written line h) ∙ ap Ok (row-of a .says);
+  every = λ a short h. let row = row-of a line h in line-complete (row .word) (row .values) line short (row .written line h) ∙ ap Ok (row .says);
   alone = λ a other told k. one-line a line other (line-taken line a told .1) k;
 }
 
