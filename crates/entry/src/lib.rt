@@ -18,8 +18,15 @@ mod types;
 mod words;
 
 pub use fault::Decline;
+pub use fault::DeclineDebug;
+pub use fault::DeclinePartialEq;
 pub use fault::LineFault;
+pub use fault::LineFaultDebug;
+pub use fault::LineFaultPartialEq;
+pub use fault::LineFromFigure;
 pub use fault::Misfigure;
+pub use fault::MisfigureDebug;
+pub use fault::MisfigurePartialEq;
 use fields::LONGEST;
 use fields::ended;
 use fields::value;
@@ -35,12 +42,22 @@ use lines::product_line;
 use lines::spot_line;
 use lines::withdraw_line;
 pub use types::Effect;
+pub use types::EffectDebug;
+pub use types::EffectPartialEq;
 pub use types::Entry;
 pub use types::Kind;
+pub use types::KindDebug;
+pub use types::KindPartialEq;
 pub use types::Request;
 pub use types::Right;
+pub use types::RightDebug;
+pub use types::RightPartialEq;
 pub use types::Side;
+pub use types::SideDebug;
+pub use types::SidePartialEq;
 pub use types::Terms;
+pub use types::TermsDebug;
+pub use types::TermsPartialEq;
 use words::Word;
 use words::read_word;
 
@@ -97,40 +114,4 @@ pub fn read_line(line: &[u8]) -> Result<Request<'_>, LineFault>
     ensures front { λ r. ⌜ ((all : List ℕ) → now (line .entry) ≡ take 201 all → mapOk asked r ≡ lineOf all) ⌝ }
 {
     read(line)
-}
-
-#[cfg(test)]
-mod tests {
-    use super::*;
-    use crate::fault::DeclineDebug;
-    use crate::fault::DeclinePartialEq;
-    use std::test::*;
-
-    #[test]
-    fn a_name_is_a_part_of_the_line() -> Result<(), Fail> {
-        let line = b"mark contract=TXB price=7650";
-        match read_line(line) {
-            Ok(Request::Enter(Entry::Mark { contract, price })) => {
-                check(contract == &line[14..17])?;
-                check_eq(price, 7650)
-            }
-            _ => Err("a mark is not read".into()),
-        }
-    }
-
-    #[test]
-    fn a_letter_inside_a_figure_is_declined_where_it_begins() -> Result<(), Fail> {
-        match read_line(b"deposit amount=83O00") {
-            Err(fault) => check_eq(
-                fault.decline(),
-                Decline {
-                    number: 1,
-                    layer: 1,
-                    at: 16,
-                    short: 0,
-                },
-            ),
-            _ => Err("it is taken".into()),
-        }
-    }
 }
