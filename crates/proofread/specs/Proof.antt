@@ -41,3 +41,9 @@ pub record Answered (before after : Desk) (block left begun : List ℕ) : Type 0
   pub begun-now : List ℕ
   pub line : kept (after .line) ≡ take 201 begun-now
   pub same : (more : List ℕ) → vec-items (before .out) ++ printed (before .number) begun (block ++ more) ≡ vec-items (after .out) ++ printed (after .number) begun-now (left ++ more)
+
+-- what was held out is written, and nothing else has changed
+pub record Emptied (before after : Desk) : Type 0 where
+  pub out : vec-items (after .out) ≡ []
+  pub line : after .line ≡ before .line
+  pub number : after .number ≡ before .number

@@ -1,4 +1,7 @@
 // Proofreads a list of lines before the crew gets it: standard input to standard output, each line taken or declined.
+ghost use Rattle.std.specs.Vec.{made};
+ghost use Rattle.proofread.specs.Proof.{Emptied};
+
 mod desk;
 
 use desk::Desk;
@@ -9,8 +12,10 @@ use std::io::Write;
 // Bytes read at a time.
 const BLOCK: usize = 65536;
 
-// Writes the answers that are held.
-fn write_out(rt: &LibcRuntime, desk: &mut Desk) -> Result<(), AnyError> {
+// Writes the answers that are held; the desk goes on where it was.
+fn write_out(rt: &LibcRuntime, desk: &mut Desk) -> Result<(), AnyError>
+    ensures { λ r. ⌜ made r (λ _. Emptied (now (desk .entry)) (now (desk .exit))) ⌝ }
+{
     rt.stdout().write_all(desk.out.as_slice())?;
     desk.out.clear();
     Ok(())
