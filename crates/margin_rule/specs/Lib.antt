@@ -1,0 +1,4 @@
+pub mod Meanings
+pub mod Laws
+pub mod Rules
+pub mod Bounds
