@@ -3,9 +3,9 @@ use mathlib.Core.Path.{_≡_, ap, _∙_}
 use Prim.Native.Nat.{ℕ, zero, suc, _+_, _-_, _*_, _≤_, max}
 use native.Mathlib.Omega.{arith}
 use native.Mathlib.Nat.{mul-le-mul-left, mul-le-mul-right, add-mul}
-use Rattle.margin_rule.specs.Meanings.{Meaning, mostLots, nearestLots, nearestFigure}
+use Rattle.margin_rule.specs.Meanings.{Meaning, asked, mostLots, nearestLots, nearestFigure}
 use Rattle.margin_rule.specs.Laws.{Laws, Lots, Figure, Rise}
-use Rattle.margin_rule.specs.Bounds.{Bounds, BoundsEverywhere, highestLot}
+use Rattle.margin_rule.specs.Bounds.{Bounds, BoundsEverywhere, highestLot, highestNeed}
 
 -- one rise after another
 rise-then : (a b c x y : ℕ) → Rise a b x → Rise b c y → Rise a c (x + y)
@@ -89,3 +89,10 @@ module _ (rule : Meaning) (laws : Laws rule) where
     lot-bounded = λ r. lot-bounded (nearestFigure r) (figure-in-range r);
     need-bounded = λ l s r. need-bounded (nearestLots l) (nearestLots s) (nearestFigure r) (lots-in-range l) (lots-in-range s) (figure-in-range r);
   }
+
+  -- any answer is within the bounds
+  pub need-answered : (l s r x : ℕ) → x ≡ asked rule .need l s r → x ≤ highestNeed
+  need-answered l s r x e = omega (arith, e, everywhere .need-bounded l s r)
+
+  pub lot-answered : (r x : ℕ) → x ≡ asked rule .lot r → x ≤ highestNeed
+  lot-answered r x e = omega (arith, e, everywhere .lot-bounded r)

@@ -2,7 +2,6 @@
 ghost use mathlib.Core.Path.{_≡_};
 ghost use Prim.Native.Nat.{_≤_};
 ghost use Rattle.margin_rule.specs.Rules.{atLeast, nearestFloor};
-
 use crate::rule::MarginRule;
 
 const HIGHEST_FLOOR: u32 = 100_000_000;

@@ -1,7 +1,8 @@
 // Every lot needs the published figure.
 ghost use Rattle.margin_rule.specs.Rules.{outright};
-
-use crate::rule::{MarginRule, nearest_figure, nearest_lots};
+use crate::rule::MarginRule;
+use crate::rule::nearest_figure;
+use crate::rule::nearest_lots;
 
 #[derive(Clone, Copy)]
 pub struct Outright;

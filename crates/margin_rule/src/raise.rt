@@ -4,10 +4,10 @@ ghost use mathlib.Core.Path.{_≡_};
 ghost use Prim.Native.Nat.{_≤_};
 ghost use Rattle.margin_rule.specs.Bounds.{highestNeed};
 ghost use Rattle.margin_rule.specs.Rules.{raised, staysInReach, percentOf, nearestPercent};
-
 use crate::rule::MarginRule;
 
 const LEAST_PERCENT: u32 = 100;
+
 const MOST_PERCENT: u32 = 500;
 
 // The furthest Reach that a rule may have.

@@ -1,7 +1,8 @@
 // Long and short lots offset each other: the lots of the larger side need the published figure.
 ghost use Rattle.margin_rule.specs.Rules.{spread};
-
-use crate::rule::{MarginRule, nearest_figure, nearest_lots};
+use crate::rule::MarginRule;
+use crate::rule::nearest_figure;
+use crate::rule::nearest_lots;
 
 #[derive(Clone, Copy)]
 pub struct Spread;
