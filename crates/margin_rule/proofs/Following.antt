@@ -1,6 +1,6 @@
 -- What follows from the laws of a margin rule, for any rule that keeps them. Assumes nothing.
 use mathlib.Core.Path.{_≡_, ap, _∙_}
-use Prim.Native.Nat.{ℕ, zero, suc, _+_, _-_, _*_, _≤_, max}
+use Prim.Native.Nat.{ℕ, zero, suc, _+_, _-_, _*_, _≤_}
 use native.Mathlib.Omega.{arith}
 use native.Mathlib.Nat.{mul-le-mul-left, mul-le-mul-right, add-mul}
 use Rattle.margin_rule.specs.Meanings.{Meaning, asked, mostLots, nearestLots, nearestFigure}

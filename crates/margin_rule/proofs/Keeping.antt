@@ -5,7 +5,7 @@ use native.Mathlib.Omega.{arith}
 use native.Mathlib.Nat.{mul-add, add-mul, mul-le-mul-left, mul-le-mul-right}
 use Rattle.std.proofs.shelf.Tests.{leb-true, cond-both}
 use Rattle.margin_rule.specs.Meanings.{Meaning}
-use Rattle.margin_rule.specs.Laws.{Laws, Rise}
+use Rattle.margin_rule.specs.Laws.{Laws, Rise, furthestReach}
 use Rattle.margin_rule.specs.Rules.{outright, spread, raised, times, percentOf}
 
 -- so many lots at a figure, where the lots grow by at most one
@@ -53,7 +53,7 @@ percent-covers : (p n : ℕ) → 100 ≤ p → n ≤ percentOf p n
 percent-covers p n h = omega (arith, mul-le-mul-left n h)
 
 module _ (below : Meaning) (laws : Laws below) where
-  times-keeps : (p : ℕ) → 100 ≤ p → percentOf p (below .reach) ≤ 2000 → Laws (times p below)
+  times-keeps : (p : ℕ) → 100 ≤ p → percentOf p (below .reach) ≤ furthestReach → Laws (times p below)
   times-keeps p low high = record {
     none = λ r f. ap (percentOf p) (laws .none r f) ∙ omega arith;
     one-more-long = λ l s r hl hs f. percent-rises p _ _ _ (laws .one-more-long l s r hl hs f);

@@ -1,6 +1,6 @@
 -- The five laws of a margin rule, for questions inside the ranges. Assumes nothing.
 use mathlib.Core.Path.{_≡_}
-use Prim.Native.Nat.{ℕ, _+_, _*_, _≤_, _<_, max}
+use Prim.Native.Nat.{ℕ, _+_, _*_, _≤_, max}
 use Rattle.margin_rule.specs.Meanings.{Meaning, mostLots, highestFigure}
 
 -- so many lots of a side, and a published figure, that a question may name
