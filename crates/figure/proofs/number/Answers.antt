@@ -24,22 +24,22 @@ turn c =
 power_below : (i k : ℕ) → i ≤ k → 10 ^ i ≤ 10 ^ k
 power_below i k h = pow-le-pow_right (omega arith) h
 
-pub returns-in-err-d : goal.returns-in-err-d
-returns-in-err-d c =
-    let p = err_from_is_err_and c.from-residual.result c.from-residual.ensures.1 in
-    let t = turn (goal.at.returns-in-err-d c).After-digit in
-    record { value = on_err (after c.loop-b.value c.loop-b.b-index c.args.bytes.now) _ _ _ c.in-err-d.was p.1 p.2 t; bound = IfOk-from_err _ _ c.from-residual.ensures.0 }
+pub returns-in_err-d : goal.returns-in_err-d
+returns-in_err-d c =
+    let p = err_from_is_err_and c.from_residual.result c.from_residual.ensures.1 in
+    let t = turn (goal.at.returns-in_err-d c).After-digit in
+    record { value = on_err (after c.loop-b.value c.loop-b.b-index c.args.bytes.now) _ _ _ c.in_err-d.was p.1 p.2 t; bound = IfOk-from_err _ _ c.from_residual.ensures.0 }
 
-pub overflow-mul-value : goal.overflow-mul-value
-overflow-mul-value c = omega (arith, power_below c.loop-b.b-index 14 (omega arith), c.loop-b.invariant.0)
+pub overflow_mul-value : goal.overflow_mul-value
+overflow_mul-value c = omega (arith, power_below c.loop-b.b-index 14 (omega arith), c.loop-b.invariant.0)
 
-pub overflow-add-value : goal.overflow-add-value
-overflow-add-value c = omega (arith, power_below c.loop-b.b-index 14 (omega arith), c.loop-b.invariant.0, c.in-ok-d.ensures.bound)
+pub overflow_add-value : goal.overflow_add-value
+overflow_add-value c = omega (arith, power_below c.loop-b.b-index 14 (omega arith), c.loop-b.invariant.0, c.in_ok-d.ensures.bound)
 
 pub loop-b-preserved : goal.loop-b-preserved
 loop-b-preserved c =
     let t = turn (goal.at.loop-b-preserved c).After-digit in
-    (rw (add-one, pow-suc) (omega (arith, c.loop-b.invariant.0, c.in-ok-d.ensures.bound)), on_ok (after c.loop-b.value c.loop-b.b-index c.args.bytes.now) _ c.in-ok-d.was t)
+    (rw (add-one, pow-suc) (omega (arith, c.loop-b.invariant.0, c.in_ok-d.ensures.bound)), on_ok (after c.loop-b.value c.loop-b.b-index c.args.bytes.now) _ c.in_ok-d.was t)
 
 pub returns : goal.returns
 returns c =
