@@ -1,4 +1,6 @@
 // One line of a day's list, read in place: an entry, the question for the report, or a fault with its column.
+#![tactic(auto)]
+
 ghost use Rattle.std.specs.Prelude.{◌≡◌, ℕ, ◌≤◌, List, length, take, Ok};
 ghost use Rattle.figure.specs.Figure.{and_then};
 ghost use Rattle.entry.specs.Entries.{asked};

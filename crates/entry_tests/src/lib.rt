@@ -1,4 +1,6 @@
 // Lines as another crate reads them. The tests stand apart from the reader, so that it is not proved twice.
+#![tactic(auto)]
+
 #[cfg(test)]
 mod tests {
     use entry::{Decline, Entry, Request, read_line};

@@ -1,4 +1,6 @@
 // A figure from bytes, whole or not at all: 1 to 15 digits, no leading zero but in 0 itself, nothing after.
+#![tactic(auto)]
+
 ghost use Rattle.std.specs.Prelude.{◌≡◌, ◌^◌, ◌<◌, ◌≤◌, length, IfOk};
 ghost use Rattle.figure.specs.Figure.{digit_of, numbered, figure_of, Exact, or_minus_one};
 

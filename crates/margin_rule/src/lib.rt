@@ -1,5 +1,7 @@
 // Margin rules: what an account must hold for its lots, the laws that every rule keeps, two rules that stand alone and two layers
 // that stand on any rule.
+#![tactic(auto)]
+
 mod bounds;
 mod minimum;
 mod outright;

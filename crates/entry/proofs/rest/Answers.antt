@@ -10,37 +10,37 @@ at_word : {r : Result Asked LineFault} {w v : Word} (line : List ℕ) (at : ℕ)
 at_word line at is told = told ∙ sym (ap (λ u. rest_at u line at) is)
 
 pub returns-in-Product : goal.returns-in-Product
-returns-in-Product c = at_word c.args.line.now c.args.at c.in-Product.is c.product-line.ensures
+returns-in-Product c = at_word c.args.line.now c.args.at c.in-Product.is c.product_line.ensures
 
 pub returns-in-Contract : goal.returns-in-Contract
-returns-in-Contract c = at_word c.args.line.now c.args.at c.in-Contract.is c.contract-line.ensures
+returns-in-Contract c = at_word c.args.line.now c.args.at c.in-Contract.is c.contract_line.ensures
 
 pub returns-in-Announce : goal.returns-in-Announce
-returns-in-Announce c = at_word c.args.line.now c.args.at c.in-Announce.is c.announce-line.ensures
+returns-in-Announce c = at_word c.args.line.now c.args.at c.in-Announce.is c.announce_line.ensures
 
 pub returns-in-Band : goal.returns-in-Band
-returns-in-Band c = at_word c.args.line.now c.args.at c.in-Band.is c.band-line.ensures
+returns-in-Band c = at_word c.args.line.now c.args.at c.in-Band.is c.band_line.ensures
 
 pub returns-in-Spot : goal.returns-in-Spot
-returns-in-Spot c = at_word c.args.line.now c.args.at c.in-Spot.is c.spot-line.ensures
+returns-in-Spot c = at_word c.args.line.now c.args.at c.in-Spot.is c.spot_line.ensures
 
 pub returns-in-Mark : goal.returns-in-Mark
-returns-in-Mark c = at_word c.args.line.now c.args.at c.in-Mark.is c.mark-line.ensures
+returns-in-Mark c = at_word c.args.line.now c.args.at c.in-Mark.is c.mark_line.ensures
 
 pub returns-in-Deposit : goal.returns-in-Deposit
-returns-in-Deposit c = at_word c.args.line.now c.args.at c.in-Deposit.is c.deposit-line.ensures
+returns-in-Deposit c = at_word c.args.line.now c.args.at c.in-Deposit.is c.deposit_line.ensures
 
 pub returns-in-Withdraw : goal.returns-in-Withdraw
-returns-in-Withdraw c = at_word c.args.line.now c.args.at c.in-Withdraw.is c.withdraw-line.ensures
+returns-in-Withdraw c = at_word c.args.line.now c.args.at c.in-Withdraw.is c.withdraw_line.ensures
 
 pub returns-in-Cancel : goal.returns-in-Cancel
-returns-in-Cancel c = at_word c.args.line.now c.args.at c.in-Cancel.is c.cancel-line.ensures
+returns-in-Cancel c = at_word c.args.line.now c.args.at c.in-Cancel.is c.cancel_line.ensures
 
 pub returns-in-Order : goal.returns-in-Order
-returns-in-Order c = at_word c.args.line.now c.args.at c.in-Order.is c.order-line.ensures
+returns-in-Order c = at_word c.args.line.now c.args.at c.in-Order.is c.order_line.ensures
 
 pub returns-in-Fill : goal.returns-in-Fill
-returns-in-Fill c = at_word c.args.line.now c.args.at c.in-Fill.is c.fill-line.ensures
+returns-in-Fill c = at_word c.args.line.now c.args.at c.in-Fill.is c.fill_line.ensures
 
 pub returns-in-Open : goal.returns-in-Open
 returns-in-Open c = at_word c.args.line.now c.args.at c.in-Open.is c.bare.ensures
