@@ -2,7 +2,7 @@
 #![tactic(auto)]
 
 ghost use Rattle.std.specs.Prelude.{◌≡◌, ◌^◌, ◌<◌, ◌≤◌, length, IfOk};
-ghost use Rattle.figure.specs.Figure.{digit_of, numbered, figure_of, Exact, or_minus_one};
+ghost use Rattle.figure.specs.Figure.{digit_of, numbered, figure_of, Exact};
 
 // Why bytes are no figure.
 #[derive(Clone, Copy, Debug, PartialEq, Drop)]
@@ -64,17 +64,6 @@ pub fn read_figure(bytes: &[u8]) -> Result<u64, FigureFault>
     figure(bytes)
 }
 
-// For C: the figure's value, or -1 where the bytes are no figure.
-#[unsafe(no_mangle)]
-pub extern "C" fn margin_figure(bytes: &[u8]) -> i64
-    ensures { result ≡ or_minus_one (figure_of bytes.now) }
-{
-    match read_figure(bytes) {
-        Ok(value) => value as i64,
-        Err(_) => -1,
-    }
-}
-
 #[cfg(test)]
 mod tests {
     use super::*;
@@ -84,8 +73,5 @@ mod tests {
         assert_eq!(rt; read_figure(b"83000"), Ok(83000));
         assert_eq!(rt; read_figure(b"83O00"), Err(FigureFault::NotDigit));
         assert_eq!(rt; read_figure(b"07"), Err(FigureFault::LeadingZero));
-        assert_eq!(rt; margin_figure(b"999999999999999"), 999999999999999);
-        assert_eq!(rt; margin_figure(b"1000000000000000"), -1);
-        assert_eq!(rt; margin_figure(b""), -1);
     }
 }

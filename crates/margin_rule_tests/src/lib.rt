@@ -1,5 +1,7 @@
 // Margin rules as another crate asks them, stacks them and writes one of its own. The tests stand apart from the rules, so that
 // these are not proved twice.
+#![tactic(auto)]
+
 mod double_shorts;
 
 #[cfg(test)]
