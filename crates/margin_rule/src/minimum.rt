@@ -1,7 +1,7 @@
 // A layer: at least so many dollars for any lots at all, and for each lot of an order.
 ghost use Rattle.std.specs.Prelude.{◌≡◌, ◌≤◌};
 ghost use Rattle.margin_rule.specs.Rules.{at_least, nearest_floor};
-ghost use Rattle.std.proofs.Common.{rules, arith};
+ghost use Rattle.std.proofs.Common.{rules};
 
 use crate::rule::MarginRule;
 
@@ -30,7 +30,7 @@ impl<R> Minimum<R> {
 impl<R: MarginRule> MarginRule for Minimum<R> {
     ghost meaning = { λ x. at_least x.floor (R.MarginRule.meaning x.below) };
 
-    ghost keeps = { first_of (Prim.search rules, Prim.grind (arith, Self.row.coded.inj)) };
+    ghost keeps = { Prim.search rules };
 
     fn need(&self, long: u32, short: u32, figure: u32) -> u64 {
         if long == 0 && short == 0 {
