@@ -12,12 +12,12 @@ returns c =
     let layer = field (codes " layer=") c.args.decline.layer in
     let at = field (codes " at=") c.args.decline.at in
     let short = field (codes " short=") c.args.decline.short in
-    let one : kept c.put-field.new.self ≡ take 201 line = c.put-field.ensures ∙ ap (λ k. take 201 (k ++ line)) c.clear.ensures in
-    let two = put_more line number (kept c.put-field.new.self) (kept c.put-field-2.new.self) one c.put-field-2.ensures in
-    let three = put_more (line ++ number) layer (kept c.put-field-2.new.self) (kept c.put-field-3.new.self) two c.put-field-3.ensures in
-    let four = put_more (line ++ number ++ layer) at (kept c.put-field-3.new.self) (kept c.put-field-4.new.self) three c.put-field-4.ensures in
-    let five = put_more (line ++ number ++ layer ++ at) short (kept c.put-field-4.new.self) (kept c.put-field-5.new.self) four c.put-field-5.ensures in
-    let all = put_more (line ++ number ++ layer ++ at ++ short) line_feed (kept c.put-field-5.new.self) (kept c.put.new.self) five c.put.ensures in
+    let one : kept c.put_field.new.self ≡ take 201 line = c.put_field.ensures ∙ ap (λ k. take 201 (k ++ line)) c.clear.ensures in
+    let two = put_more line number (kept c.put_field.new.self) (kept c.put_field-2.new.self) one c.put_field-2.ensures in
+    let three = put_more (line ++ number) layer (kept c.put_field-2.new.self) (kept c.put_field-3.new.self) two c.put_field-3.ensures in
+    let four = put_more (line ++ number ++ layer) at (kept c.put_field-3.new.self) (kept c.put_field-4.new.self) three c.put_field-4.ensures in
+    let five = put_more (line ++ number ++ layer ++ at) short (kept c.put_field-4.new.self) (kept c.put_field-5.new.self) four c.put_field-5.ensures in
+    let all = put_more (line ++ number ++ layer ++ at ++ short) line_feed (kept c.put_field-5.new.self) (kept c.put.new.self) five c.put.ensures in
     all ∙ take_all 201 (decline_text c.args.line c.args.decline) (omega (
       arith,
       length-append (line ++ number ++ layer ++ at ++ short) line_feed,
