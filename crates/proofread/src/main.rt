@@ -1,4 +1,6 @@
 // Proofreads a list of lines before the crew gets it: standard input to standard output, each line taken or declined.
+#![tactic(auto)]
+
 ghost use Rattle.std.specs.Prelude.{OnOk};
 ghost use Rattle.proofread.specs.Proof.{Emptied};
 
