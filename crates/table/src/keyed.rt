@@ -13,7 +13,7 @@ pub trait Keyed<K> {
 
 // The place of the first row with an equal key, or None where there is none.
 pub fn first<K: Copy, T: Keyed<K>>(rows: &[T], key: K) -> Option<usize>
-    ensures { result ≡ first_by (λ row. keyed row key) rows.now }
+    ensures { result ≡ first_by (λ row. T.keyed row key) rows.now }
 {
     for (i, row) in rows.iter().enumerate() {
         if row.has_key(key) {

@@ -1,4 +1,6 @@
 // A fixed table of rows, and the lookup of a row by its key.
+#![tactic(auto)]
+
 mod edits;
 mod keyed;
 mod reads;

@@ -23,7 +23,7 @@ fn a_full_table_stays_as_it_is(rt: HostRuntime) {
     assert!(rt; table.push(5));
     assert!(rt; table.push(6));
     assert!(rt; !table.push(7));
-    assert_eq!(rt; table.as_slice(), &[5, 6]);
+    assert_eq!(rt; table.as_slice(), [5, 6].as_slice());
 }
 
 #[test]

@@ -1,6 +1,0 @@
-use Rattle.std.proofs.Common.{arith}
-use Rattle.std.proofs.lemmas.List.{length-replicate}
-use Rattle.table.proofs.table.Table.new.Goals as goal
-
-pub invariant-of-result : goal.invariant-of-result
-invariant-of-result g c = (omega arith, (length-replicate g.row.N c.args.blank, tt))
