@@ -1,4 +1,6 @@
 // What an account holds: the rows of its tables, its phase and call, and by which numbers these and its declines are told.
+#![tactic(auto)]
+
 mod name;
 mod phase;
 mod refusal;

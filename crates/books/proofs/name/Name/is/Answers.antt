@@ -6,5 +6,5 @@ use Rattle.books.proofs.name.Name.is.Goals as goal
 
 pub returns : goal.returns
 returns c =
-    same_from_decides _ _ (slice_eq-Decides Decides-eqb _ _ _ c.eq.ensures) (bytes_eq-Decides c.as-bytes.result.now c.args.bytes.now)
-    ∙ ap (λ bs. bytes_eq bs c.args.bytes.now) c.as-bytes.ensures
+    same_from_decides _ _ (slice_eq-Decides Decides-eqb _ _ _ c.eq.ensures) (bytes_eq-Decides c.as_bytes.result.now c.args.bytes.now)
+    ∙ ap (λ bs. bytes_eq bs c.args.bytes.now) c.as_bytes.ensures
