@@ -1,4 +1,6 @@
 // The law over every run of an account, on the contracts of functions that do nothing.
+#![tactic(auto)]
+
 ghost use Rattle.history.specs.Law.{EveryRunIsLawful, EveryListIsLawful, EveryEntryRunsOn};
 ghost use Rattle.history.specs.Keeping.{EveryRunIsKept};
 ghost use Rattle.history.specs.Declines.{DeclinesWorked};

@@ -3,7 +3,7 @@ use Rattle.history.proofs.worked_runs.Goals as goal
 
 pub returns : goal.returns
 returns c = record {
-  part-fill = record {
+  part_fill = record {
     available_filled = refl;
     available_marked = refl;
     available_cancelled = refl;
