@@ -1,4 +1,6 @@
 // The worked figures that the rule book is held to, as one proved check.
+#![tactic(auto)]
+
 ghost use Rattle.std.specs.Prelude.{◌≡◌, pos};
 ghost use Rattle.margin_rule.specs.Meanings.{asked};
 ghost use Rattle.margin_rule.specs.Rules.{outright, spread, raised};
