@@ -3,7 +3,7 @@ use Rattle.std.proofs.Common.{◌≡◌, ℕ, ◌+◌, ◌<◌, ◌≤◌, cond,
 use Rattle.std.proofs.ByRecursion.{All-weaker, All-push, All-from_get_or}
 use Rattle.std.proofs.lemmas.List.{get_or_append_left, take_at}
 use Rattle.std.proofs.lemmas.Bool.Decides.{nat_tests as tests-tell}
-use Rattle.std.specs.List.{AllByRecursion as All}
+use Rattle.std.specs.List.{AllByRecursion}
 use Rattle.std.specs.Str.{bytes_eq}
 use Rattle.entry.specs.Entries.{Said, lists_product, lists_contract, announces, sets_band, sets_spot, sets_mark, deposits, withdraws, cancels, orders, fills, opens, closes, ends_deadline}
 use Rattle.entry.specs.declared.types.Terms.{Terms}
@@ -44,7 +44,7 @@ pub record MarketsAgree (h : List Event) (m : Market) : Type 0 where
 
 -- what is told of the standing orders
 abbrev pub OrdersAgree : List Event → Market → List (Lots Order) → Type 0
-OrdersAgree h m os = All (λ (o : Lots Order). placed_as h o.of.number ≡ placed_in m o.of) os
+OrdersAgree h m os = AllByRecursion (λ (o : Lots Order). placed_as h o.of.number ≡ placed_in m o.of) os
 
 -- a kept name is the name
 name_kept : (bs : List ℕ) → name_bytes (name_of bs) ≡ bs
@@ -227,7 +227,7 @@ phases_agree_step rule h b c n q closes = ap next_phase q
 phases_agree_step rule h b c n q ends_deadline = q
 
 -- ---- standing orders
-all_both : {A : Type 0} (P Q : A → Type 0) (xs : List A) → All P xs → All Q xs → All (λ x. P x × Q x) xs
+all_both : {A : Type 0} (P Q : A → Type 0) (xs : List A) → AllByRecursion P xs → AllByRecursion Q xs → AllByRecursion (λ x. P x × Q x) xs
 all_both P Q [] p q = tt
 all_both P Q (x ∷ xs) p q = ((p.0, q.0), all_both P Q xs p.1 q.1)
 
@@ -239,7 +239,7 @@ newest n j x y z e q = grind (arith, tests-tell)
 
 module _ (rule : Meaning) (h : List Event) (b c : Books) (n : ℕ) (s : Sound b) (a : OrdersAgree h b.market b.orders) where
   -- the names of their contracts stay
-  named_still : (e : Said) → All (λ (o : Lots Order). placed_as h o.of.number ≡ placed_in (market_after b.market e) o.of) b.orders
+  named_still : (e : Said) → AllByRecursion (λ (o : Lots Order). placed_as h o.of.number ≡ placed_in (market_after b.market e) o.of) b.orders
   named_still e =
       let keeps = market_keeps b.market (λ i l. (s.contracts i l).0) e in
       All-weaker _ _ (λ o f. f.1 ∙ sym (ap (λ (x : List ℕ). record { contract = x; side = o.of.side }) (keeps.names o.of.contract f.0))) b.orders

@@ -3,7 +3,7 @@ use Rattle.std.proofs.Common.{◌≡◌, ℕ, ◌+◌, ◌-◌, ◌*◌, ◌<◌
 use Rattle.std.proofs.ByRecursion.{All-from_get_or}
 use Rattle.std.proofs.lemmas.List.{append_assoc, append-nil}
 use Rattle.std.proofs.lemmas.Int.{ints}
-use Rattle.std.specs.List.{AllByRecursion as All}
+use Rattle.std.specs.List.{AllByRecursion}
 use Rattle.entry.specs.declared.types.Kind.{Kind}
 use Rattle.entry.specs.declared.types.Kind.TheVariants.{Futures, Options}
 use Rattle.entry.specs.declared.types.Side.{Side}
@@ -29,7 +29,7 @@ use Rattle.history.proofs.KeepsMoney.{Bounded, futures_affordable, options_affor
 use Rattle.history.proofs.KeepsAccount.{mark_affordable, lots_few, lines_bounded}
 
 -- lots each worth at most so much
-weigh-within : {A : Type 0} (u : A → ℕ) (n : ℕ) (xs : List (Lots A)) → All (λ (x : Lots A). u x.of ≤ n) xs → weigh u xs ≤ all_lots xs * n
+weigh-within : {A : Type 0} (u : A → ℕ) (n : ℕ) (xs : List (Lots A)) → AllByRecursion (λ (x : Lots A). u x.of ≤ n) xs → weigh u xs ≤ all_lots xs * n
 weigh-within u n xs f = omega (arith, weigh-le u (λ a. n) xs f, weigh-scale n xs)
 
 -- ---- needs

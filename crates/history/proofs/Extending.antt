@@ -3,7 +3,7 @@ use Rattle.std.proofs.Common.{◌≡◌, ℕ, ◌*◌, ◌<◌, ◌≤◌, Bool,
 use Rattle.std.proofs.lemmas.Int.{ints}
 use Rattle.std.proofs.lemmas.Bool.{ne_eqb}
 use Rattle.std.proofs.ByRecursion.{All-from_get_or, All-weaker}
-use Rattle.std.specs.List.{AllByRecursion as All}
+use Rattle.std.specs.List.{AllByRecursion}
 use Rattle.entry.specs.declared.types.Side.{Side}
 use Rattle.entry.specs.declared.types.Side.TheVariants.{Buy, Sell}
 use Rattle.margin_rule.specs.Meanings.{Meaning, asked}
@@ -39,8 +39,8 @@ Listed b c = c < length b.market.contracts
 
 pub record Referring (b : Books) : Type 0 where
   pub contracts : (c : ℕ) → Listed b c → (contract_at b.market c).product < length b.market.products
-  pub orders : All (λ (o : Lots Order). Listed b o.of.contract) b.orders
-  pub lines : All (λ (l : Lots Position). Listed b l.of.contract) b.lines
+  pub orders : AllByRecursion (λ (o : Lots Order). Listed b o.of.contract) b.orders
+  pub lines : AllByRecursion (λ (l : Lots Position). Listed b l.of.contract) b.lines
 
 pub refers : (b : Books) → Sound b → Referring b
 refers b s = record {
@@ -50,13 +50,13 @@ refers b s = record {
 }
 
 -- what holds wherever the contract is listed holds of every line
-pub of_lines : (b : Books) → Referring b → (P : Position → Type 0) → ((l : Position) → Listed b l.contract → P l) → All (λ (l : Lots Position). P l.of) b.lines
+pub of_lines : (b : Books) → Referring b → (P : Position → Type 0) → ((l : Position) → Listed b l.contract → P l) → AllByRecursion (λ (l : Lots Position). P l.of) b.lines
 of_lines b r P f = All-weaker (λ l. Listed b l.of.contract) (λ l. P l.of) (λ l h. f l.of h) b.lines r.lines
 
 below : (x n : ℕ) (t : Bool) → x < n → (i : ℕ) → n ≤ i → one_if (eqb x i && t) ≡ 0
 below x n t l i k = simp (ne_eqb x i (λ e. omega arith))
 
-none_of : {A : Type 0} (u : A → ℕ) (xs : List (Lots A)) → All (λ (x : Lots A). u x.of ≡ 0) xs → weigh u xs ≡ 0
+none_of : {A : Type 0} (u : A → ℕ) (xs : List (Lots A)) → AllByRecursion (λ (x : Lots A). u x.of ≡ 0) xs → weigh u xs ≡ 0
 none_of u [] f = refl
 none_of u (x ∷ xs) f = omega (arith, none_of u xs f.1, ap (λ z. x.count * z) f.0)
 

@@ -2,7 +2,7 @@
 use Rattle.std.proofs.Common.{◌≡◌, ℕ, zero, suc, ◌+◌, ◌-◌, ◌*◌, ◌/◌, ◌<◌, ◌≤◌, min, max, Bool, true, false, cond, List, [], ◌∷◌, length, ℤ, pos, ◌+ℤ◌, ◌-ℤ◌, ◌≤ℤ◌, refl, ap, mul-le-mul_left, arith}
 use lib.Signed.{le_z}
 use Rattle.std.proofs.lemmas.Int.{ints}
-use Rattle.std.specs.List.{AllByRecursion as All}
+use Rattle.std.specs.List.{AllByRecursion}
 use Rattle.entry.specs.declared.types.Kind.{Kind}
 use Rattle.entry.specs.declared.types.Kind.TheVariants.{Futures, Options}
 use Rattle.entry.specs.declared.types.Side.{Side}
@@ -39,7 +39,7 @@ Priced m price l = (price l.of.contract * futures_tick m l.of.contract ≤ highe
 sum_bounded : (x y : ℤ) (n m : ℕ) → Bounded x (n * highest_worth) → Bounded y (m * highest_worth) → Bounded (x +ℤ y) ((n * 1 + m) * highest_worth)
 sum_bounded x y n m f g = (omega (arith, ints), omega (arith, ints))
 
-pub results_bounded : (m : Market) (price : Prices) (ls : List (Lots Position)) → All (Priced m price) ls → Bounded (results m price ls) (all_lots ls * highest_worth)
+pub results_bounded : (m : Market) (price : Prices) (ls : List (Lots Position)) → AllByRecursion (Priced m price) ls → Bounded (results m price ls) (all_lots ls * highest_worth)
 results_bounded m price [] f = (omega (arith, ints), omega (arith, ints))
 results_bounded m price (l ∷ ls) f =
     let tick = futures_tick m l.of.contract in
@@ -63,13 +63,13 @@ options_affordable m c price h = options_within (product_of m c).kind price (pro
 
 -- what holds of each, of what was taken
 part_step : {A : Type 0} (P : A → Type 0) (p : A → Bool) (k : ℕ) (x : Lots A) (near far : List (Lots A)) (t : Bool) → p x.of ≡ t → P x.of →
-    All (λ (x : Lots A). P x.of × (p x.of ≡ true)) near → All (λ (x : Lots A). P x.of × (p x.of ≡ true)) far →
-    All (λ (x : Lots A). P x.of × (p x.of ≡ true)) (cond t (record { of = x.of; count = min k x.count } ∷ near) far)
+    AllByRecursion (λ (x : Lots A). P x.of × (p x.of ≡ true)) near → AllByRecursion (λ (x : Lots A). P x.of × (p x.of ≡ true)) far →
+    AllByRecursion (λ (x : Lots A). P x.of × (p x.of ≡ true)) (cond t (record { of = x.of; count = min k x.count } ∷ near) far)
 part_step P p k x near far true e h a b = ((h, e), a)
 part_step P p k x near far false e h a b = b
 
-pub part_all : {A : Type 0} (P : A → Type 0) (p : A → Bool) (k : ℕ) (xs : List (Lots A)) → All (λ (x : Lots A). P x.of) xs →
-    All (λ (x : Lots A). P x.of × (p x.of ≡ true)) (part p k xs)
+pub part_all : {A : Type 0} (P : A → Type 0) (p : A → Bool) (k : ℕ) (xs : List (Lots A)) → AllByRecursion (λ (x : Lots A). P x.of) xs →
+    AllByRecursion (λ (x : Lots A). P x.of × (p x.of ≡ true)) (part p k xs)
 part_all P p k [] f = tt
 part_all P p k (x ∷ xs) f =
     let near = part_all P p (k - x.count) xs f.1 in

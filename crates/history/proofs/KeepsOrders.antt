@@ -1,7 +1,7 @@
 -- What is left of orders or lines keeps what held of each, and the numbers of orders rise.
 use Rattle.std.proofs.Common.{ℕ, zero, suc, ◌-◌, ◌*◌, ◌<◌, ◌≤◌, Bool, true, false, cond, eqb, List, [], ◌∷◌, ◌++◌, length, arith}
 use Rattle.std.proofs.ByRecursion.{All-get_or, All-from_get_or, All-push}
-use Rattle.std.specs.List.{AllByRecursion as All}
+use Rattle.std.specs.List.{AllByRecursion}
 use Rattle.books.specs.declared.rows.Lots.{Lots}
 use Rattle.books.specs.declared.rows.Order.{Order}
 use Rattle.books.specs.Lots.{all_lots, put, left}
@@ -25,7 +25,7 @@ pub each_left : {A : Type 0} (none : Lots A) (P : Lots A → Type 0) → Shorten
 each_left none P s p k xs f = λ i l. All-get_or P (left p k xs) i none l (left_all P s p k xs (All-from_get_or P xs none f))
 
 -- all lots, where no row has more than n
-pub lots_within : {A : Type 0} (n : ℕ) (xs : List (Lots A)) → All (λ (x : Lots A). x.count ≤ n) xs → all_lots xs ≤ length xs * n
+pub lots_within : {A : Type 0} (n : ℕ) (xs : List (Lots A)) → AllByRecursion (λ (x : Lots A). x.count ≤ n) xs → all_lots xs ≤ length xs * n
 lots_within n [] f = omega arith
 lots_within n (x ∷ xs) f = let c = f.0 in omega (arith, lots_within n xs f.1)
 
@@ -35,7 +35,7 @@ Later n o = n < o.of.number
 
 abbrev Rising : List (Lots Order) → Type 0
 Rising [] = Unit {0}
-Rising (o ∷ os) = All (Later o.of.number) os × Rising os
+Rising (o ∷ os) = AllByRecursion (Later o.of.number) os × Rising os
 
 rising : (os : List (Lots Order)) → NumbersRise os → Rising os
 rising [] h = tt
@@ -50,14 +50,14 @@ risen (o ∷ os) h zero (suc j) l k = All-get_or (Later o.of.number) os j no_ord
 risen (o ∷ os) h (suc i) zero l k = absurd (omega arith)
 risen (o ∷ os) h (suc i) (suc j) l k = risen os h.1 i j (omega arith) (omega arith)
 
-later_left : (n : ℕ) (p : Order → Bool) (k : ℕ) (os : List (Lots Order)) → All (Later n) os → All (Later n) (left p k os)
+later_left : (n : ℕ) (p : Order → Bool) (k : ℕ) (os : List (Lots Order)) → AllByRecursion (Later n) os → AllByRecursion (Later n) (left p k os)
 later_left n = left_all (Later n) (λ x c h l m. h)
 
-rising_put : (n : ℕ) (o : Order) (os : List (Lots Order)) → All (Later o.number) os → Rising os → (t : Bool) → Rising (cond t os (record { of = o; count = n } ∷ os))
+rising_put : (n : ℕ) (o : Order) (os : List (Lots Order)) → AllByRecursion (Later o.number) os → Rising os → (t : Bool) → Rising (cond t os (record { of = o; count = n } ∷ os))
 rising_put n o os l r true = r
 rising_put n o os l r false = (l, r)
 
-rising_step : (k : ℕ) (x : Lots Order) (near far : List (Lots Order)) → All (Later x.of.number) near → All (Later x.of.number) far →
+rising_step : (k : ℕ) (x : Lots Order) (near far : List (Lots Order)) → AllByRecursion (Later x.of.number) near → AllByRecursion (Later x.of.number) far →
     Rising near → Rising far → (t : Bool) → Rising (cond t (put (x.count - k) x.of near) (x ∷ far))
 rising_step k x near far a b c d true = rising_put (x.count - k) x.of near a c (eqb (x.count - k) 0)
 rising_step k x near far a b c d false = (b, d)
@@ -69,7 +69,7 @@ rising_left p k (x ∷ xs) h =
     let rest = λ (k : ℕ). rising_left p k xs h.1 in
     rising_step k x (left p (k - x.count) xs) (left p k xs) (later (k - x.count)) (later k) (rest (k - x.count)) (rest k) (p x.of)
 
-rising_push : (os : List (Lots Order)) (o : Lots Order) → Rising os → All (λ (x : Lots Order). x.of.number < o.of.number) os → Rising (os ++ o ∷ [])
+rising_push : (os : List (Lots Order)) (o : Lots Order) → Rising os → AllByRecursion (λ (x : Lots Order). x.of.number < o.of.number) os → Rising (os ++ o ∷ [])
 rising_push [] o r l = (tt, tt)
 rising_push (x ∷ xs) o r l = (All-push (Later x.of.number) xs o r.0 l.0, rising_push xs o r.1 l.1)
 

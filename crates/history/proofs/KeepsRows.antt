@@ -2,7 +2,7 @@
 use Rattle.std.proofs.Common.{◌≡◌, ℕ, zero, suc, ◌<◌, Bool, true, List, [], ◌∷◌, ◌++◌, length, get_or, set, is_some, Some, None, Option, refl, ap}
 use Rattle.std.proofs.lemmas.List.{length-set}
 use Rattle.std.proofs.ByRecursion.{All-get_or, All-from_get_or, All-push}
-use Rattle.std.specs.List.{AllByRecursion as All}
+use Rattle.std.specs.List.{AllByRecursion}
 use Rattle.table.specs.First.{first_by}
 use Rattle.books.specs.Market.{row_at, changed_at}
 use Rattle.books.specs.Sound.{Each}
@@ -27,7 +27,7 @@ row_found p none xs e =
 pub each_push : {A : Type 0} (none : A) (P : A → Type 0) (xs : List A) (x : A) → Each none P xs → P x → Each none P (xs ++ x ∷ [])
 each_push none P xs x f p = λ i l. All-get_or P (xs ++ x ∷ []) i none l (All-push P xs x (All-from_get_or P xs none f) p)
 
-all_set_at : {A : Type 0} (none : A) (P : A → Type 0) (xs : List A) (i : ℕ) (a : A) → All P xs → (P (get_or xs i none) → P a) → All P (set xs i a)
+all_set_at : {A : Type 0} (none : A) (P : A → Type 0) (xs : List A) (i : ℕ) (a : A) → AllByRecursion P xs → (P (get_or xs i none) → P a) → AllByRecursion P (set xs i a)
 all_set_at none P [] i a f g = tt
 all_set_at none P (x ∷ xs) zero a f g = (g f.0, f.1)
 all_set_at none P (x ∷ xs) (suc i) a f g = (f.0, all_set_at none P xs i a f.1 g)

@@ -3,7 +3,7 @@ use Rattle.std.proofs.Common.{◌≡◌, ℕ, ◌+◌, ◌<◌, ◌≤◌, List,
 use Rattle.std.proofs.ByRecursion.{All-from_get_or, All-get_or}
 use Rattle.std.proofs.lemmas.Int.{ints}
 use Rattle.std.proofs.lemmas.Bool.{leb-true, ltb-true, not-true}
-use Rattle.std.specs.List.{AllByRecursion as All}
+use Rattle.std.specs.List.{AllByRecursion}
 use Rattle.entry.specs.declared.types.Side.{Side}
 use Rattle.entry.specs.declared.types.Effect.{Effect}
 use Rattle.entry.specs.declared.types.Effect.TheVariants.{Opening, Closing}
@@ -65,7 +65,7 @@ rebased_lots price [] = refl
 rebased_lots price (l ∷ ls) = omega (arith, rebased_lots price ls)
 
 rebased_fit : (m : Market) (price : Prices) (ls : List (Lots Position)) → ((c : ℕ) → c < length m.contracts → Affordable m c (price c)) →
-    All (LineFits m) ls → All (LineFits m) (rebased price ls)
+    AllByRecursion (LineFits m) ls → AllByRecursion (LineFits m) (rebased price ls)
 rebased_fit m price [] a f = tt
 rebased_fit m price (l ∷ ls) a f = ((f.0.0, f.0.1, f.0.2, a l.of.contract f.0.0), rebased_fit m price ls a f.1)
 

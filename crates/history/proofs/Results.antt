@@ -3,7 +3,7 @@ use Rattle.std.proofs.Common.{◌≡◌, ℕ, ◌+◌, ◌*◌, ◌≤◌, true,
 use borrow.Author.Differences.{up, down}
 use Rattle.std.proofs.lemmas.Int.{ints}
 use Rattle.std.proofs.lemmas.Bool.{and_parts, eqb-true}
-use Rattle.std.specs.List.{AllByRecursion as All}
+use Rattle.std.specs.List.{AllByRecursion}
 use Rattle.entry.specs.declared.types.Side.{Side}
 use Rattle.entry.specs.declared.types.Side.TheVariants.{Buy, Sell}
 use Rattle.books.specs.declared.rows.Lots.{Lots}
@@ -115,7 +115,7 @@ results_closed m mk c k p Sell ls h =
 abbrev pub Alike : Market → Market → Prices → Prices → Position → Type 0
 Alike m n mk nk l = (futures_tick m l.contract ≡ futures_tick n l.contract) × (mk l.contract ≡ nk l.contract)
 
-pub results_agree : (m n : Market) (mk nk : Prices) (ls : List (Lots Position)) → All (λ (l : Lots Position). Alike m n mk nk l.of) ls → results m mk ls ≡ results n nk ls
+pub results_agree : (m n : Market) (mk nk : Prices) (ls : List (Lots Position)) → AllByRecursion (λ (l : Lots Position). Alike m n mk nk l.of) ls → results m mk ls ≡ results n nk ls
 results_agree m n mk nk [] f = refl
 results_agree m n mk nk (l ∷ ls) f = let a = results_agree m n mk nk ls f.1 in let b = f.0.0 in let c = f.0.1 in cc
 

@@ -3,7 +3,7 @@ use Rattle.std.proofs.Common.{◌≡◌, ℕ, ◌+◌, ◌-◌, ◌*◌, ◌<◌
 use Rattle.std.proofs.lemmas.Int.{ints}
 use Rattle.std.proofs.lemmas.Bool.{eq-eqb}
 use Rattle.std.proofs.ByRecursion.{All-from_get_or}
-use Rattle.std.specs.List.{AllByRecursion as All}
+use Rattle.std.specs.List.{AllByRecursion}
 use Rattle.entry.specs.declared.types.Kind.{Kind}
 use Rattle.entry.specs.declared.types.Kind.TheVariants.{Futures, Options}
 use Rattle.entry.specs.declared.types.Side.TheVariants.{Buy, Sell}
@@ -63,7 +63,7 @@ module _ (rule : Meaning) (laws : Laws rule) (b : Books) (s : Sound b) where
       let one : one_if (of_contract l.contract Sell l) ≡ one_if (same_side l.side Sell) = ap (λ t. one_if (t && same_side l.side Sell)) here in
       simp one (turned k (one_if (same_side l.side Sell)) (w l.contract))
 
-  short_lots : (w : ℕ → ℕ) (n : ℕ) (ls : List (Lots Position)) → All (λ (l : Lots Position). l.of.contract < n) ls →
+  short_lots : (w : ℕ → ℕ) (n : ℕ) (ls : List (Lots Position)) → AllByRecursion (λ (l : Lots Position). l.of.contract < n) ls →
       weigh (λ l. one_if (same_side l.side Sell) * w l.contract) ls ≤ sum_to n (λ c. w c * lots_of (of_contract c Sell) ls)
   short_lots w n [] f = omega arith
   short_lots w n (l ∷ ls) f =

@@ -2,7 +2,7 @@
 use Rattle.std.proofs.Common.{◌≡◌, ℕ, ◌+◌, ◌<◌, List, [], ◌∷◌, length, ℤ, ◌+ℤ◌, sym, refl, ap, ◌∙◌, subst, subst₂, arith}
 use Rattle.std.proofs.ByRecursion.{All-from_get_or}
 use Rattle.std.proofs.lemmas.Int.{ints}
-use Rattle.std.specs.List.{AllByRecursion as All}
+use Rattle.std.specs.List.{AllByRecursion}
 use Rattle.entry.specs.Entries.{Said, lists_product, lists_contract, announces, sets_band, sets_spot, sets_mark, deposits, withdraws, cancels, orders, fills, opens, closes, ends_deadline}
 use Rattle.margin_rule.specs.Meanings.{Meaning}
 use Rattle.margin_rule.specs.Laws.{Laws}
@@ -35,7 +35,7 @@ pub record Holds (rule : Meaning) (h : List Event) (b : Books) : Type 0 where
   pub orders : OrdersAgree h b.market b.orders
   pub value : (mk : List ℕ → ℕ) → worth b mk ≡ summed mk h
   pub covered : Covered (available rule b) (falls h) (fees h) (taxes h)
-  pub refused : All RefusedBelowMaintenance h
+  pub refused : AllByRecursion RefusedBelowMaintenance h
   pub settled : SettledAtRegularCloses h
 
 -- a declined entry adds nothing

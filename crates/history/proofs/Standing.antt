@@ -2,7 +2,7 @@
 use Rattle.std.proofs.Common.{◌≡◌, ℕ, ◌*◌, ◌<◌, ◌≤◌, true, List, length, get_or, is_some, Some, sym, ap, ◌∙◌, subst, ap₂}
 use Rattle.std.proofs.ByRecursion.{All-get_or}
 use Rattle.std.proofs.lemmas.Bool.{eqb-true}
-use Rattle.std.specs.List.{AllByRecursion as All}
+use Rattle.std.specs.List.{AllByRecursion}
 use Rattle.entry.specs.declared.types.Side.{Side}
 use Rattle.entry.specs.declared.types.Terms.{Terms}
 use Rattle.books.specs.declared.rows.Lots.{Lots}
@@ -35,7 +35,7 @@ module _ (b : Books) (n : ℕ) (known : is_some (order_place b n) ≡ true) wher
   order_fits : (P : Lots Order → Type 0) → Each no_order P b.orders → P (order_by b n)
   order_fits P each = subst P (sym stands.1) (each (place_of (order_place b n)) stands.0)
 
-  order_has : (P : Lots Order → Type 0) → All P b.orders → P (order_by b n)
+  order_has : (P : Lots Order → Type 0) → AllByRecursion P b.orders → P (order_by b n)
   order_has P all = order_fits P (λ i l. All-get_or P b.orders i no_order l all)
 
   order_number : (order_by b n).of.number ≡ n

@@ -2,7 +2,7 @@
 use Rattle.std.proofs.Common.{◌≡◌, ℕ, zero, suc, ◌+◌, ◌-◌, ◌*◌, ◌<◌, ◌≤◌, min, Bool, true, false, cond, eqb, List, [], ◌∷◌, ◌++◌, length, get_or, Some, None, Option, sym, refl, ap, subst, ⊎_elim, mul-le-mul_left, arith}
 use Rattle.std.proofs.lemmas.Bool.Decides.{nat_tests}
 use Rattle.std.proofs.lemmas.Bool.{cases_lt, cases_eq}
-use Rattle.std.specs.List.{AllByRecursion as All}
+use Rattle.std.specs.List.{AllByRecursion}
 use Rattle.table.specs.First.{first_from, first_by}
 use Rattle.books.specs.declared.rows.Lots.{Lots}
 use Rattle.books.specs.Lots.{weigh, lots_of, all_lots, put, left, part, sum_to}
@@ -66,11 +66,11 @@ pub weigh-scale : {A : Type 0} (n : ℕ) (xs : List (Lots A)) → weigh (λ a. n
 weigh-scale n [] = omega arith
 weigh-scale n (x ∷ xs) = omega (arith, weigh-scale n xs)
 
-pub weigh-agree : {A : Type 0} (u v : A → ℕ) (xs : List (Lots A)) → All (λ (x : Lots A). u x.of ≡ v x.of) xs → weigh u xs ≡ weigh v xs
+pub weigh-agree : {A : Type 0} (u v : A → ℕ) (xs : List (Lots A)) → AllByRecursion (λ (x : Lots A). u x.of ≡ v x.of) xs → weigh u xs ≡ weigh v xs
 weigh-agree u v [] f = refl
 weigh-agree u v (x ∷ xs) f = let a = weigh-agree u v xs f.1 in let b = f.0 in grind arith
 
-pub weigh-le : {A : Type 0} (u v : A → ℕ) (xs : List (Lots A)) → All (λ (x : Lots A). u x.of ≤ v x.of) xs → weigh u xs ≤ weigh v xs
+pub weigh-le : {A : Type 0} (u v : A → ℕ) (xs : List (Lots A)) → AllByRecursion (λ (x : Lots A). u x.of ≤ v x.of) xs → weigh u xs ≤ weigh v xs
 weigh-le u v [] f = omega arith
 weigh-le u v (x ∷ xs) f = omega (arith, weigh-le u v xs f.1, mul-le-mul_left x.count f.0)
 
@@ -122,17 +122,17 @@ weigh-first u p k (x ∷ xs) o e h =
 abbrev pub Shortens : {A : Type 0} → (Lots A → Type 0) → Type 0
 Shortens {A} P = (x : Lots A) (n : ℕ) → P x → 1 ≤ n → n ≤ x.count → P (record { of = x.of; count = n })
 
-put_all : {A : Type 0} (P : Lots A → Type 0) → Shortens P → (x : Lots A) (n : ℕ) (xs : List (Lots A)) → P x → n ≤ x.count → All P xs → (t : Bool) →
-    eqb n 0 ≡ t → All P (cond t xs (record { of = x.of; count = n } ∷ xs))
+put_all : {A : Type 0} (P : Lots A → Type 0) → Shortens P → (x : Lots A) (n : ℕ) (xs : List (Lots A)) → P x → n ≤ x.count → AllByRecursion P xs → (t : Bool) →
+    eqb n 0 ≡ t → AllByRecursion P (cond t xs (record { of = x.of; count = n } ∷ xs))
 put_all P s x n xs h le all true e = all
 put_all P s x n xs h le all false e = (s x n h (grind (arith, nat_tests)) le, all)
 
-left_all_step : {A : Type 0} (P : Lots A → Type 0) → Shortens P → (k : ℕ) (x : Lots A) (near far : List (Lots A)) → P x → All P near → All P far →
-    (t : Bool) → All P (cond t (put (x.count - k) x.of near) (x ∷ far))
+left_all_step : {A : Type 0} (P : Lots A → Type 0) → Shortens P → (k : ℕ) (x : Lots A) (near far : List (Lots A)) → P x → AllByRecursion P near → AllByRecursion P far →
+    (t : Bool) → AllByRecursion P (cond t (put (x.count - k) x.of near) (x ∷ far))
 left_all_step P s k x near far h a b true = put_all P s x (x.count - k) near h (omega arith) a (eqb (x.count - k) 0) refl
 left_all_step P s k x near far h a b false = (h, b)
 
-pub left_all : {A : Type 0} (P : Lots A → Type 0) → Shortens P → (p : A → Bool) (k : ℕ) (xs : List (Lots A)) → All P xs → All P (left p k xs)
+pub left_all : {A : Type 0} (P : Lots A → Type 0) → Shortens P → (p : A → Bool) (k : ℕ) (xs : List (Lots A)) → AllByRecursion P xs → AllByRecursion P (left p k xs)
 left_all P s p k [] f = tt
 left_all P s p k (x ∷ xs) f = left_all_step P s k x (left p (k - x.count) xs) (left p k xs) f.0 (left_all P s p (k - x.count) xs f.1) (left_all P s p k xs f.1) (p x.of)
 

@@ -1,10 +1,10 @@
 -- A taken entry has passed each of its tests.
 use Rattle.std.proofs.Common.{◌≡◌, ℕ, Bool, true, false, cond, List, [], ◌∷◌, is_some, Some, None, Option, refl, arith}
-use Rattle.std.specs.List.{AllByRecursion as All}
+use Rattle.std.specs.List.{AllByRecursion}
 use Rattle.books.specs.Tests.{Test, taken, down, refused_by, place_of}
 
 abbrev pub Passed : List Test → Type 0
-Passed ts = All (λ (t : Test). t.passes ≡ true) ts
+Passed ts = AllByRecursion (λ (t : Test). t.passes ≡ true) ts
 
 passes_first : (t : Test) (ts : List Test) (n m : ℕ) (b : Bool) → t.passes ≡ b → cond b (down ts n) (refused_by t.refusal) ≡ taken m →
     (t.passes ≡ true) × (down ts n ≡ taken m)

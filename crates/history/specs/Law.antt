@@ -1,6 +1,6 @@
 -- Runs of an account, and the law over every one of them. Assumes nothing.
 use Rattle.std.specs.Prelude.{◌≡◌, ◌+◌, Bool, true, false, List, [], ◌∷◌, pos, ◌+ℤ◌, ◌-ℤ◌, ◌≤ℤ◌, ◌<ℤ◌}
-use Rattle.std.specs.List.{AllByRecursion as All}
+use Rattle.std.specs.List.{AllByRecursion}
 use Rattle.entry.specs.Entries.{Said, lists_product, lists_contract, announces, sets_band, sets_spot, sets_mark, deposits, withdraws, cancels, orders, fills, opens, closes, ends_deadline}
 use Rattle.margin_rule.specs.Meanings.{Meaning}
 use Rattle.margin_rule.specs.Laws.{Laws}
@@ -69,7 +69,7 @@ pub record Law (h : List Event) (now : Figures) : Type 0 where
   -- equity is cash in less cash out, fees and taxes, plus futures fills measured to the marks, plus premiums received less paid
   pub equity_is_cash_and_fills : now.equity ≡ (pos (cash_in_of h) -ℤ pos (cash_out_of h) -ℤ pos (fees h) -ℤ pos (taxes h) +ℤ measured (mark_of h) h +ℤ pos (received h) -ℤ pos (paid h))
   -- wherever an opening order or a withdrawal came while equity was below the maintenance need, it was declined
-  pub refused_below_maintenance : All RefusedBelowMaintenance h
+  pub refused_below_maintenance : AllByRecursion RefusedBelowMaintenance h
   pub settled_at_regular_closes : SettledAtRegularCloses h
   pub den_is_not_negative : pos 0 ≤ℤ now.den
 
