@@ -166,10 +166,10 @@ module _ (rule : Meaning) (laws : Laws rule) where
     needs_opened =
         let k = (product_of m contract).kind in
         let lot = (asked rule).lot futures_figure in
-        let optionLot = by_side n.of.side 0 ((asked rule).lot series_figure) in
+        let option_lot = by_side n.of.side 0 ((asked rule).lot series_figure) in
         omega (
           arith,
-          shares k n.count lot optionLot,
+          shares k n.count lot option_lot,
           sum_to-one (length m.products) product (by_kind k (n.count * lot) 0) (futures_need rule m level lines) (futures_need rule m level ls) other_product (own_product k),
-          sum_to-one (length m.contracts) contract (by_kind k 0 (n.count * optionLot)) (series_need rule m level price lines) (series_need rule m level price ls) other_series (own_series k),
+          sum_to-one (length m.contracts) contract (by_kind k 0 (n.count * option_lot)) (series_need rule m level price lines) (series_need rule m level price ls) other_series (own_series k),
         )

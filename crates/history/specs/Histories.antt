@@ -98,7 +98,7 @@ abbrev pub fall_if : Bool → OfSession
 fall_if counts = record { turns = false; settles = false; falls = counts }
 
 abbrev pub turn : Bool → OfSession
-turn regularClose = record { turns = true; settles = regularClose; falls = regularClose }
+turn regular_close = record { turns = true; settles = regular_close; falls = regular_close }
 
 pub record Told : Type 0 where
   pub market : OfMarket
