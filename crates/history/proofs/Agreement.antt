@@ -70,7 +70,7 @@ module _ (rule : Meaning) (h : List Event) (b c : Books) (n : ℕ) (owned : Owne
 
   -- a changed product
   module _ (name : List ℕ) (f : Product → Product) (same_name : (p : Product) → product_name (f p) ≡ product_name p)
-      (same-listing : (p : Product) → listing_in (f p) ≡ listing_in p) (k : ℕ) (q : product_named b.market name ≡ Some k) where
+      (same_listing : (p : Product) → listing_in (f p) ≡ listing_in p) (k : ℕ) (q : product_named b.market name ≡ Some k) where
     abbrev products : List Product
     products = b.market.products
 
@@ -83,7 +83,7 @@ module _ (rule : Meaning) (h : List Event) (b c : Books) (n : ℕ) (owned : Owne
     changed_listings : Tells product_name listing_in no_product (listing_of h) products_after
     changed_listings =
         subst (λ ps. Tells product_name listing_in no_product (listing_of h) ps) (sym at_product)
-        (tells_kept product_name no_product listing_in (listing_of h) f same_name same-listing products k a.listings)
+        (tells_kept product_name no_product listing_in (listing_of h) f same_name same_listing products k a.listings)
 
     changed_owners : Tells contract_name (λ r. product_name (get_or products_after r.product no_product)) no_contract (product_of h) b.market.contracts
     changed_owners = owners_kept products_after (λ i l. changed_leaves product_name no_product products (product_named b.market name) f same_name i)

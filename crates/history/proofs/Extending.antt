@@ -148,19 +148,19 @@ module _ (b : Books) (r : Referring b) (n : Market) (x : Extends b.market n) whe
         let g = same_lots i Sell in
         let e : futures_now i ≡ futures_then i = cc in
         omega (arith, e) in
-        let no-futures : (i : ℕ) → length m.products ≤ i → futures_now i ≡ 0 = λ i l.
+        let no_futures : (i : ℕ) → length m.products ≤ i → futures_now i ≡ 0 = λ i l.
         by_kind_zero (product_at n i).kind _ 0 (none_needed _ _ (margin_a initially (product_at n i).terms) (no_product_lots i Buy l) (no_product_lots i Sell l)) refl in
         let series : (c : ℕ) → Listed b c → series_now c ≤ series_then c = λ c l.
         let p = same_product c l in
         let f = same_published initially c l in
         let e : series_now c ≡ series_then c = cc in
         omega (arith, e) in
-        let no-series : (c : ℕ) → length m.contracts ≤ c → series_now c ≡ 0 = λ c l.
+        let no_series : (c : ℕ) → length m.contracts ≤ c → series_now c ≡ 0 = λ c l.
         by_kind_zero (product_of n c).kind 0 _ refl (none_needed 0 _ (published_at n initially (marks n) c) refl (no_series_lots c Sell l)) in
         omega (
           arith,
-          sum_to-longer (length m.products) (length n.products) futures_now futures_then x.more_products futures no-futures,
-          sum_to-longer (length m.contracts) (length n.contracts) series_now series_then x.more_contracts series no-series,
+          sum_to-longer (length m.products) (length n.products) futures_now futures_then x.more_products futures no_futures,
+          sum_to-longer (length m.contracts) (length n.contracts) series_now series_then x.more_contracts series no_series,
         )
 
     pub extends_available : available rule b ≤ℤ available rule (with_market b n)

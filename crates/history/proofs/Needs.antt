@@ -153,9 +153,9 @@ module _ (rule : Meaning) (laws : Laws rule) where
         let lot = (asked rule).lot series_figure in
         let at : sold ls contract + short ≡ sold lines contract =
         omega (arith, pushed_lots (of_contract contract Sell), alike (eqb contract contract) (same_side n.of.side Sell) n.count (eq-eqb contract contract refl)) in
-        let by-short : (asked rule).need 0 (sold ls contract + short) series_figure ≤ (asked rule).need 0 (sold ls contract) series_figure + n.count * by_side n.of.side 0 lot =
+        let by_short : (asked rule).need 0 (sold ls contract + short) series_figure ≤ (asked rule).need 0 (sold ls contract) series_figure + n.count * by_side n.of.side 0 lot =
         omega (arith, more 0 (sold ls contract) 0 short series_figure, on_short_side n.of.side n.count lot, ap (λ x. x * lot) (zero-add short)) in
-        subst (λ x. (asked rule).need 0 x series_figure ≤ (asked rule).need 0 (sold ls contract) series_figure + n.count * by_side n.of.side 0 lot) at by-short
+        subst (λ x. (asked rule).need 0 x series_figure ≤ (asked rule).need 0 (sold ls contract) series_figure + n.count * by_side n.of.side 0 lot) at by_short
 
     shares : (k : Kind) (x y z : ℕ) → by_kind k (x * y) 0 + by_kind k 0 (x * z) ≡ x * by_kind k y z
     shares Futures x y z = omega arith
