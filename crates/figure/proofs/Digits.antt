@@ -1,11 +1,11 @@
--- The first digit decides how the rest is read.
-use Rattle.std.proofs.Common.{◌≡◌, ℕ, ◌+◌, ◌-◌, ◌*◌, Bool, true, false, cond, ◌&&◌, List, ◌∷◌, Ok, Err, refl}
-use Rattle.figure.specs.declared.FigureFault.TheVariants.{NotDigit}
-use Rattle.figure.specs.Figure.{and_then, is_digit, every, value_after, digit_of, numbered}
+-- The first digit decides how the rest is read, and 15 digits stay below 10^15.
+use Rattle.std.proofs.Common.{◌≡◌, ℕ, ◌+◌, ◌*◌, ◌^◌, ◌<◌, ◌≤◌, List, length, get_or, drop, arith}
+use native.Mathlib.Nat.{pow-le-pow_right}
+use Rattle.std.proofs.lemmas.List.{drop_more}
+use Rattle.figure.specs.Figure.{and_then, digit_of, numbered}
 
-pub numbered_more : (n b : ℕ) (bs : List ℕ) → numbered n (b ∷ bs) ≡ and_then (digit_of b) (λ d. numbered (n * 10 + d) bs)
-numbered_more n b bs = go (is_digit b)
-  where
-    go : (t : Bool) → cond (t && every is_digit bs) (Ok (value_after (n * 10 + (b - 48)) bs)) (Err NotDigit) ≡ and_then (cond t (Ok (b - 48)) (Err NotDigit)) (λ d. numbered (n * 10 + d) bs)
-    go true = refl
-    go false = refl
+pub numbered_more : (n i : ℕ) (bs : List ℕ) → i < length bs → numbered n (drop i bs) ≡ and_then (digit_of (get_or bs i 0)) (λ d. numbered (n * 10 + d) (drop (i + 1) bs))
+numbered_more n i bs h = rw (drop_more bs i 0 h) (grind arith)
+
+pub power_within : (i : ℕ) → i ≤ 15 → 10 ^ i ≤ 10 ^ 15
+power_within i h = pow-le-pow_right (omega arith) h

@@ -25,43 +25,33 @@ fn digit(byte: u8) -> Result<u8, FigureFault>
 }
 
 // The number that at most 15 digits write.
+#[tactic(auto, using(crate::proofs::Digits::numbered_more, crate::proofs::Digits::power_within))]
 fn number(bytes: &[u8]) -> Result<u64, FigureFault>
     requires { length bytes.now ≤ 15 }
     ensures value { result ≡ numbered 0 bytes.now }
     ensures bound { IfOk result (λ v. v < 10 ^ 15) }
 {
     let mut value: u64 = 0;
-    for b in bytes {
-        let d = digit(*b)?;
-        value = value * 10 + d as u64;
+    // no `try_fold`: how far the value may grow goes by the place, which its closure does not know
+    for &byte in bytes {
+        value = value * 10 + u64::from(digit(byte)?);
     }
     Ok(value)
 }
 
-// The rules of a figure, one after the other.
-fn figure(bytes: &[u8]) -> Result<u64, FigureFault>
-    ensures value { result ≡ figure_of bytes.now }
-    ensures bound { IfOk result (λ v. v < 10 ^ 15) }
-{
-    if bytes.is_empty() {
-        return Err(FigureFault::Empty);
-    }
-    if bytes.len() > 15 {
-        return Err(FigureFault::TooLong);
-    }
-    if bytes.len() > 1 && bytes[0] == b'0' {
-        return Err(FigureFault::LeadingZero);
-    }
-    number(bytes)
-}
-
 // The figure that the bytes write, or why they write none.
+#[tactic(auto, using(crate::proofs::Exactly::digits_are_written, crate::proofs::Exactly::decimal_reads))]
 pub fn read_figure(bytes: &[u8]) -> Result<u64, FigureFault>
     ensures value { result ≡ figure_of bytes.now }
     ensures exact { Exact bytes.now result }
     ensures bound { IfOk result (λ v. v < 10 ^ 15) }
 {
-    figure(bytes)
+    match bytes {
+        [] => Err(FigureFault::Empty),
+        _ if bytes.len() > 15 => Err(FigureFault::TooLong),
+        [b'0', _, ..] => Err(FigureFault::LeadingZero),
+        _ => number(bytes),
+    }
 }
 
 #[cfg(test)]
