@@ -6,7 +6,7 @@ ghost use Rattle.figure.specs.Figure.{figure_of, or_minus_one};
 
 use figure::read_figure;
 
-// For C: the figure's value, or -1 where the bytes are no figure.
+// For C: the figure's value, or -1 where the bytes are no figure. The C interface needs a number in place of a `Result`.
 #[unsafe(no_mangle)]
 pub extern "C" fn margin_figure(bytes: &[u8]) -> i64
     ensures { result ≡ or_minus_one (figure_of bytes.now) }
