@@ -34,7 +34,7 @@ fn number(bytes: &[u8]) -> Result<u64, FigureFault>
     let mut value: u64 = 0;
     // no `try_fold`: how far the value may grow goes by the place, which its closure does not know
     for &byte in bytes {
-        value = value * 10 + u64::from(digit(byte)?);
+        value = value * 10 + digit(byte)? as u64;
     }
     Ok(value)
 }
