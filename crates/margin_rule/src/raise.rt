@@ -55,7 +55,7 @@ fn percent_of(percent: u32, x: u64) -> u64
     requires x { x ≤ highest_need }
     ensures { result ≡ percent_of percent x }
 {
-    (x * percent as u64 + 99) / 100
+    (x * percent as u64).div_ceil(100)
 }
 
 impl<R: MarginRule> MarginRule for Raise<R> {
@@ -63,10 +63,12 @@ impl<R: MarginRule> MarginRule for Raise<R> {
 
     ghost keeps = { λ x. raised_keeps _ (R.MarginRule.keeps x.below) x.percent x.least };
 
+    #[tactic(auto, using(crate::proofs::Following::need_within))]
     fn need(&self, long: u32, short: u32, figure: u32) -> u64 {
         self.raised(self.below.need(long, short, figure))
     }
 
+    #[tactic(auto, using(crate::proofs::Following::lot_within))]
     fn lot(&self, figure: u32) -> u64 {
         self.raised(self.below.lot(figure))
     }
