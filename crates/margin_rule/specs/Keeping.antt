@@ -1,40 +1,16 @@
--- Outright, Spread and Raise keep the laws, Raise over any rule that keeps them. Assumes nothing.
-use Rattle.std.proofs.Common.{ap, ◌∙◌, arith, mul-add, add-mul, mul-le-mul_left, mul-le-mul_right}
+-- By which lemmas Spread and Raise keep the laws, Raise over any rule that keeps them. Assumes nothing.
+use Rattle.std.proofs.Common.{arith, mul-add, add-mul, mul-le-mul_left, mul-le-mul_right}
 use Rattle.std.specs.Prelude.{ℕ, ◌+◌, ◌*◌, ◌≤◌}
 use Rattle.std.proofs.lemmas.Bool.{leb-true, cond_both}
 use Rattle.margin_rule.specs.Meanings.{Meaning}
 use Rattle.margin_rule.specs.Laws.{Laws, Rise, furthest_reach}
-use Rattle.margin_rule.specs.Rules.{outright, spread, raised, times, percent_of}
+use Rattle.margin_rule.specs.Rules.{raised, times, percent_of}
 
 -- so many lots at a figure, where the lots grow by at most one
-product_rises : (r n m : ℕ) → n ≤ m → m ≤ n + 1 → Rise (r * n) (r * m) r
+pub product_rises : (r n m : ℕ) → n ≤ m → m ≤ n + 1 → Rise (r * n) (r * m) r
 product_rises r n m h k = record {
   least = mul-le-mul_left r h;
   within = omega (arith, mul-le-mul_left r k, mul-add r n 1);
-}
-
-pub outright_keeps : Laws outright
-outright_keeps = record {
-  none = λ r f. omega arith;
-  one_more_long = λ l s r hl hs f. product_rises r _ _ (omega arith) (omega arith);
-  one_more_short = λ l s r hl hs f. product_rises r _ _ (omega arith) (omega arith);
-  covers = λ l s r hl hs f. mul-le-mul_left r (omega arith);
-  higher_figure = λ l s r q hl hs f g h. mul-le-mul_right _ h;
-  reach_least = omega arith;
-  reach_most = omega arith;
-  lot_within_reach = λ r f. omega arith;
-}
-
-pub spread_keeps : Laws spread
-spread_keeps = record {
-  none = λ r f. omega arith;
-  one_more_long = λ l s r hl hs f. product_rises r _ _ (omega arith) (omega arith);
-  one_more_short = λ l s r hl hs f. product_rises r _ _ (omega arith) (omega arith);
-  covers = λ l s r hl hs f. mul-le-mul_left r (omega arith);
-  higher_figure = λ l s r q hl hs f g h. mul-le-mul_right _ h;
-  reach_least = omega arith;
-  reach_most = omega arith;
-  lot_within_reach = λ r f. omega arith;
 }
 
 -- a percentage of 100 or more, rounded up, keeps order and lowers nothing
@@ -53,12 +29,12 @@ percent_covers p n h = omega (arith, mul-le-mul_left n h)
 module _ (below : Meaning) (laws : Laws below) where
   times_keeps : (p : ℕ) → 100 ≤ p → percent_of p below.reach ≤ furthest_reach → Laws (times p below)
   times_keeps p low high = record {
-    none = λ r f. ap (percent_of p) (laws.none r f) ∙ omega arith;
-    one_more_long = λ l s r hl hs f. percent_rises p _ _ _ (laws.one_more_long l s r hl hs f);
-    one_more_short = λ l s r hl hs f. percent_rises p _ _ _ (laws.one_more_short l s r hl hs f);
+    none = λ r f. grind (arith, laws.none r f);
+    one_more_long = search (percent_rises, laws.one_more_long);
+    one_more_short = search (percent_rises, laws.one_more_short);
     covers = λ l s r hl hs f. omega (arith, laws.covers l s r hl hs f, percent_covers p (below.need l s r) low);
-    higher_figure = λ l s r q hl hs f g h. percent_grows p _ _ (laws.higher_figure l s r q hl hs f g h);
-    reach_least = omega (arith, laws.reach_least, percent_covers p below.reach low);
+    higher_figure = search (percent_grows, laws.higher_figure);
+    reach_least = omega (arith, percent_covers p below.reach low);
     reach_most = high;
     lot_within_reach = λ r f. omega (arith, mul-le-mul_right p (laws.lot_within_reach r f));
   }
