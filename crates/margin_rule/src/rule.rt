@@ -13,7 +13,8 @@ pub const HIGHEST_FIGURE: u32 = 100_000_000;
 pub trait MarginRule {
     ghost meaning: { Self → Meaning };
 
-    // The dollars that so many long and short lots need at a published figure.
+    // The dollars that so many long and short lots need at a published figure. The questions are of plain numbers (scalars), so long
+    // and short are two parameters and no struct.
     fn need(&self, long: u32, short: u32, figure: u32) -> u64
         ensures { result ≡ (asked (meaning self.now)).need long short figure };
 
