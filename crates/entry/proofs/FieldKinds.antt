@@ -2,7 +2,8 @@
 use Rattle.std.proofs.Common.{◌≡◌, ℕ, ◌^◌, ◌<◌, Bool, true, false, cond, ◌&&◌, eqb, ltb, leb, List, [], ◌∷◌, ◌++◌, length, get_or, drop, Some, None, Ok, Err, codes, decimal, Option, Result, sym, refl, ap, ◌∙◌, subst, arith}
 use Rattle.std.proofs.lemmas.List.{nil_from_length}
 use Rattle.std.proofs.lemmas.Bool.{cond-true, eqb-true, and_parts}
-use Rattle.figure.specs.Figure.{is_digit, every, figure_of}
+use Rattle.std.specs.List.{list_all}
+use Rattle.figure.specs.Figure.{is_digit, figure_of}
 use Rattle.figure.specs.declared.FigureFault.{FigureFault}
 use Rattle.figure.proofs.Bind.{ok_through}
 use Rattle.figure.proofs.Exactly.{figure_exact, decimal_digits}
@@ -19,7 +20,7 @@ use Rattle.entry.specs.declared.types.Terms.{Terms}
 use Rattle.entry.specs.Fields.{placed, carried, figure_in, is_name_byte, is_name, name_in, or_form, letter_in}
 use Rattle.entry.specs.Letters.{kind_letter, right_letter, side_letter, effect_letter, case_of, kind_of, right_of, side_of, effect_of}
 use Rattle.entry.specs.Lines.{figure, name, letter, kind, right, side, effect, Valids, texts, term_fields, terms_of, term_values, terms_at, terms}
-use Rattle.entry.proofs.Values.{unbroken_from_every}
+use Rattle.entry.proofs.Values.{unbroken_from_all}
 use Rattle.entry.proofs.Reading.{ReadsValue, Reads, reads_keyed, AllRead, fields_sound, fields_complete}
 
 -- figures
@@ -31,15 +32,15 @@ reads_figure_value : ReadsValue figure_in (λ n. n < 10 ^ 15) decimal
 reads_figure_value = record {
   sound = λ column bs n told. let w = (figure_exact bs n).0 (placed_ok column n (figure_of bs) told) in (w.1, w.0);
   complete = λ column n h. ap (λ r. carried (placed column r)) ((figure_exact (decimal n) n).1 (refl, h));
-  unbroken = λ n h. unbroken_from_every is_digit refl (decimal n) (decimal_digits n h);
+  unbroken = λ n h. unbroken_from_all is_digit refl (decimal n) (decimal_digits n h);
 }
 
 pub reads_figure : (key : List ℕ) → Reads (figure key)
 reads_figure = reads_keyed figure_in (λ n. n < 10 ^ 15) decimal reads_figure_value
 
 -- names
-name_bytes_lem : (bs : List ℕ) → is_name bs ≡ true → every is_name_byte bs ≡ true
-name_bytes_lem bs h = (and_parts (leb (length bs) 8) (every is_name_byte bs) (and_parts (ltb 0 (length bs)) (leb (length bs) 8 && every is_name_byte bs) h).1).1
+name_bytes_lem : (bs : List ℕ) → is_name bs ≡ true → list_all is_name_byte bs ≡ true
+name_bytes_lem bs h = (and_parts (leb (length bs) 8) (list_all is_name_byte bs) (and_parts (ltb 0 (length bs)) (leb (length bs) 8 && list_all is_name_byte bs) h).1).1
 
 name_sound : (column : ℕ) (bs v : List ℕ) → name_in column bs ≡ Ok v → (is_name v ≡ true) × (bs ≡ v)
 name_sound column bs v told =
@@ -51,7 +52,7 @@ pub reads_name : (key : List ℕ) → Reads (name key)
 reads_name = reads_keyed name_in (λ bs. is_name bs ≡ true) (λ bs. bs) (record {
   sound = name_sound;
   complete = λ column v h. cond-true (is_name v) (Ok v) (Err (Form column)) h;
-  unbroken = λ v h. unbroken_from_every is_name_byte refl v (name_bytes_lem v h);
+  unbroken = λ v h. unbroken_from_all is_name_byte refl v (name_bytes_lem v h);
 })
 
 -- letters: each case has one, and a blank is none
@@ -130,12 +131,14 @@ terms_read : AllRead term_fields
 terms_read = search reads_figure depth 12
 
 terms_sound : (line : List ℕ) (at : ℕ) (t : Terms) (end : ℕ) → terms_at line at ≡ Ok (t, end) → Valids term_fields (term_values t) × (drop at line ≡ texts term_fields (term_values t) ++ drop end line)
+unfolding terms_at
 terms_sound line at t end told =
     let gave = fields_sound term_fields terms_read line at (λ vs e. Ok (terms_of vs, e)) (t, end) told in
     let pair : ◌≡◌ {A = Terms × ℕ} (terms_of gave.values, gave.end) (t, end) = cc gave.rest in
     (subst (λ x. Valids term_fields (term_values x.0)) pair gave.valid, gave.stands ∙ ap (λ x. texts term_fields (term_values x.0) ++ drop x.1 line) pair)
 
 pub reads_terms : Reads terms
+unfolding terms_at
 reads_terms = record {
   sound = terms_sound;
   complete = λ line at t rest valid stands stops. fields_complete term_fields terms_read line at (λ vs e. Ok (terms_of vs, e)) (term_values t) rest valid stands stops;

@@ -1,4 +1,4 @@
-pub mod Scans
+pub mod Blanks
 pub mod Values
 pub mod Reading
 pub mod FieldKinds

@@ -31,6 +31,7 @@ pub record Reads (f : Field) : Type 0 where
 
 module _ {A : Type 0} (reader : ℕ → List ℕ → Result A LineFault) (Valid : A → Type 0) (shown : A → List ℕ) (reads : ReadsValue reader Valid shown) (key : List ℕ) where
   keyed_sound : (line : List ℕ) (at : ℕ) (v : A) (end : ℕ) → field_at reader key line at ≡ Ok (v, end) → Valid v × (drop at line ≡ keyed key (shown v) ++ drop end line)
+  unfolding field_at
   keyed_sound line at v end told =
       let k = through (key_at key line at) (λ start. and_then (reader (start + 1) (value_at line start)) (λ value. Ok (value, start + length (value_at line start)))) (v, end) told in
       let r = through (reader (k.value + 1) (value_at line k.value)) (λ value. Ok (value, k.value + length (value_at line k.value))) (v, end) k.rest in
@@ -48,6 +49,7 @@ module _ {A : Type 0} (reader : ℕ → List ℕ → Result A LineFault) (Valid 
   value_read :
       (line : List ℕ) (at : ℕ) (v : A) (start : ℕ) →
       Valid v → key_at key line at ≡ Ok start → value_at line start ≡ shown v → field_at reader key line at ≡ Ok (v, start + length (shown v))
+  unfolding field_at
   value_read line at v start valid found value =
       ap (λ r. and_then r (λ s. and_then (reader (s + 1) (value_at line s)) (λ x. Ok (x, s + length (value_at line s))))) found
       ∙ ap (λ bs. and_then (reader (start + 1) bs) (λ x. Ok (x, start + length bs))) value

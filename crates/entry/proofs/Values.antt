@@ -4,7 +4,7 @@ use Rattle.std.specs.Str.{bytes_eq}
 use Rattle.std.proofs.lemmas.Slice.Eq.{bytes_eq-Decides}
 use Rattle.std.proofs.lemmas.List.{take-append-drop, drop-drop, drop_more, drop_at, take_at, get_or-drop, get_or_past}
 use Rattle.std.proofs.lemmas.Bool.{cond-true, cond-false, eqb-true, eq-eqb, ne_eqb, and_parts, both_ways, cases_lt}
-use Rattle.figure.specs.Figure.{every}
+use Rattle.std.specs.List.{list_all}
 use Rattle.figure.proofs.Bind.{ok_through}
 use Rattle.entry.specs.declared.fault.LineFault.TheVariants.{Form}
 use Rattle.entry.specs.Fields.{word, key_at}
@@ -19,11 +19,11 @@ abbrev pub Unbroken : List ℕ → Type 0
 Unbroken [] = Unit {0}
 Unbroken (b ∷ bs) = (b ≡ 32 → ⊥) × Unbroken bs
 
-pub unbroken_from_every : (test : ℕ → Bool) → test 32 ≡ false → (bs : List ℕ) → every test bs ≡ true → Unbroken bs
-unbroken_from_every test not_blank [] h = tt
-unbroken_from_every test not_blank (b ∷ bs) h =
-    let parts = and_parts (test b) (every test bs) h in
-    ((λ is. both_ways (test 32) not_blank (subst (λ x. test x ≡ true) is parts.0)), unbroken_from_every test not_blank bs parts.1)
+pub unbroken_from_all : (test : ℕ → Bool) → test 32 ≡ false → (bs : List ℕ) → list_all test bs ≡ true → Unbroken bs
+unbroken_from_all test not_blank [] h = tt
+unbroken_from_all test not_blank (b ∷ bs) h =
+    let parts = and_parts (test b) (list_all test bs) h in
+    ((λ is. both_ways (test 32) not_blank (subst (λ x. test x ≡ true) is parts.0)), unbroken_from_all test not_blank bs parts.1)
 
 -- a value, and what stands behind it
 pub value_stands : (bs : List ℕ) → bs ≡ word bs ++ drop (length (word bs)) bs

@@ -1,11 +1,13 @@
 -- A line is one entry, whole: it is answered exactly as what it writes, and nothing else writes that.
-use Rattle.std.proofs.Common.{◌≡◌, ℕ, ◌+◌, ◌<◌, ◌≤◌, Bool, true, false, cond, ltb, List, [], ◌∷◌, ◌++◌, length, take, drop, Ok, Err, sym, refl, ap, ◌∙◌, subst, inl, inr, append-nil, arith}
+use Rattle.std.proofs.Common.{◌≡◌, ℕ, ◌+◌, ◌<◌, ◌≤◌, Bool, true, false, cond, ltb, List, [], ◌∷◌, ◌++◌, length, take, drop, Ok, Err, Result, sym, refl, ap, ◌∙◌, subst, inl, inr, append-nil, arith}
 use Rattle.std.specs.Str.{bytes_eq}
 use Rattle.std.proofs.lemmas.Slice.Eq.{bytes_eq-Decides}
 use Rattle.std.proofs.lemmas.List.{drop_all, drop_at, length-drop, length-take-le, take_all}
 use Rattle.std.proofs.lemmas.Bool.{cond-true, cond-false, ltb-false, le-ltb, lt-ltb, cases_lt}
-use Rattle.figure.specs.Figure.{and_then, every}
+use Rattle.std.specs.List.{list_all}
+use Rattle.figure.specs.Figure.{and_then}
 use Rattle.figure.proofs.Bind.{ok_past}
+use Rattle.entry.specs.declared.fault.LineFault.{LineFault}
 use Rattle.entry.specs.declared.fault.LineFault.TheVariants.{Form}
 use Rattle.entry.specs.declared.words.Word.{Word}
 use Rattle.entry.specs.declared.words.Word.TheVariants.{Product, Contract, Announce, Band, Spot, Mark, Deposit, Withdraw, Cancel, Order, Fill, Open, Close, Deadline, Report}
@@ -14,7 +16,7 @@ use Rattle.entry.specs.Fields.{word, value_at, end_at}
 use Rattle.entry.specs.Lines.{Values, Valids, texts, fields_of, word_text, said_by, words, word_in, rest_at, line_of, Written, Writes, Whole}
 use Rattle.entry.proofs.FieldKinds.{reads_figure, reads_name, reads_kind, reads_right, reads_side, reads_effect, reads_terms}
 use Rattle.entry.proofs.Reading.{through, AllRead, fields_sound, stops_before, fields_complete}
-use Rattle.entry.proofs.Values.{Stops, unbroken_from_every, value_stands, value_is, behind}
+use Rattle.entry.proofs.Values.{Stops, unbroken_from_all, value_stands, value_is, behind}
 
 fields_read : (w : Word) → AllRead (fields_of w)
 fields_read Product = search (reads_figure, reads_name, reads_kind, reads_terms) depth 12
@@ -77,7 +79,7 @@ word_sound (v ∷ ws) bs w told = go (bytes_eq bs (word_text v)) (bytes_eq-Decid
 abbrev is_small : ℕ → Bool
 is_small b = ltb 96 b
 
-word_found : (w : Word) → (word_in words (word_text w) ≡ Ok w) × (every is_small (word_text w) ≡ true)
+word_found : (w : Word) → (word_in words (word_text w) ≡ Ok w) × (list_all is_small (word_text w) ≡ true)
 word_found Product = (refl, refl)
 word_found Contract = (refl, refl)
 word_found Announce = (refl, refl)
@@ -117,7 +119,7 @@ line_sound line a told =
 line_complete : (w : Word) (vs : Values (fields_of w)) (line : List ℕ) → length line ≤ 200 → Written w vs line → line_of line ≡ Ok (said_by w vs)
 line_complete w vs line short written =
     let stops : Stops (texts (fields_of w) vs) = subst Stops (append-nil (texts (fields_of w) vs)) (stops_before (fields_of w) (fields_read w) vs [] tt) in
-    let first : value_at line 0 ≡ word_text w = ap word written.text ∙ value_is (word_text w) (texts (fields_of w) vs) (unbroken_from_every is_small refl (word_text w) (word_found w).1) stops in
+    let first : value_at line 0 ≡ word_text w = ap word written.text ∙ value_is (word_text w) (texts (fields_of w) vs) (unbroken_from_all is_small refl (word_text w) (word_found w).1) stops in
     let rest : drop (length (value_at line 0)) line ≡ texts (fields_of w) vs =
     ap (λ v. drop (length v) line) first ∙ ap (drop (length (word_text w))) written.text ∙ drop_at (word_text w) (texts (fields_of w) vs) (length (word_text w)) refl in
     cond-false _ _ _ (le-ltb 200 (length line) short)
@@ -175,7 +177,7 @@ line_taken line a told =
 one_line : (a : Asked) (line other : List ℕ) → Writes a line → Writes a other → other ≡ line
 one_line a line other h k = let row = row_of a line h in (row.written other k).text ∙ sym (row.written line h).text
 
-pub line_whole : (line : List ℕ) → Whole line (line_of line)
+line_whole : (line : List ℕ) → Whole line (line_of line)
 line_whole line = record {
   taken = line_taken line;
   every = λ a short h. let row = row_of a line h in line_complete row.word row.values line short (row.written line h) ∙ ap Ok row.says;
@@ -186,8 +188,16 @@ line_whole line = record {
 too_long : (line : List ℕ) → 200 < length line → line_of line ≡ Err (Form 201)
 too_long line over = cond-true _ _ _ (lt-ltb 200 (length line) over)
 
-pub front_tells : (line : List ℕ) → line_of (take 201 line) ≡ line_of line
+front_tells : (line : List ℕ) → line_of (take 201 line) ≡ line_of line
 front_tells line = elim (cases_lt 200 (length line)) [
   | inl over ↦ too_long (take 201 line) (omega (arith, length-take-le 201 line (omega arith))) ∙ sym (too_long line over)
   | inr fits ↦ ap line_of (take_all 201 line (omega arith))
 ]
+
+-- so of any reader that answers what the line says
+module _ (line : List ℕ) (r : Result Asked LineFault) (told : r ≡ line_of line) where
+  pub told_whole : Whole line r
+  told_whole = subst (Whole line) (sym told) (line_whole line)
+
+  pub told_front : (all : List ℕ) → line ≡ take 201 all → r ≡ line_of all
+  told_front all is = told ∙ ap line_of is ∙ front_tells all

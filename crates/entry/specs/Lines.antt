@@ -75,7 +75,7 @@ terms_of (fee, (tax, (limit, (share, (ia, (ib, (ma, (mb, _)))))))) = record { fe
 abbrev pub term_values : Terms → Values term_fields
 term_values t = (t.fee, (t.tax, (t.limit, (t.share, (t.ia, (t.ib, (t.ma, (t.mb, tt))))))))
 
-abbrev pub terms_at : List ℕ → ℕ → Result (Terms × ℕ) LineFault
+unfoldable pub terms_at : List ℕ → ℕ → Result (Terms × ℕ) LineFault
 terms_at line at = fields_at term_fields line at (λ vs end. Ok (terms_of vs, end))
 
 abbrev pub terms : Field

@@ -27,7 +27,8 @@ impl From<Misfigure> for LineFault {
     }
 }
 
-// A decline as it is told: its number, the layer that found it, the column in the line, the missing dollars.
+// A decline as it is told: its number, the layer that found it, the column in the line, the missing dollars. Plain numbers, since
+// they are what an answer prints; the kinds are the cases of the faults.
 #[derive(Clone, Copy, Debug, PartialEq, Drop)]
 pub struct Decline {
     pub number: u8,
@@ -36,21 +37,21 @@ pub struct Decline {
     pub short: u64,
 }
 
-impl LineFault {
-    pub fn decline(&self) -> Decline
-        ensures { result ≡ decline_of self.now }
-    {
-        match self {
-            LineFault::Figure(f) => Decline {
+impl From<LineFault> for Decline {
+    ghost from_gives = { λ fault decline. decline ≡ decline_of fault };
+
+    fn from(fault: LineFault) -> Decline {
+        match fault {
+            LineFault::Figure(figure) => Decline {
                 number: 1,
                 layer: 1,
-                at: f.at,
+                at: figure.at,
                 short: 0,
             },
             LineFault::Form { at } => Decline {
                 number: 2,
                 layer: 2,
-                at: *at,
+                at,
                 short: 0,
             },
         }

@@ -4,7 +4,7 @@ ghost use Rattle.entry.specs.Letters.{kind_of, right_of, side_of, effect_of};
 
 use crate::types::{Effect, Kind, Right, Side};
 
-// Cases that a letter each stands for.
+// Cases that a letter each stands for. No `TryFrom<char>`: it promises a relation to its answer, and a field is read by a function.
 pub(crate) trait Letter: Sized {
     ghost meant: { ℕ → Option Self };
 

@@ -9,65 +9,52 @@ ghost use Rattle.entry.specs.Fields.{map_ok, end_at};
 ghost use Rattle.entry.specs.Lines.{rest_at, line_of, answer_to, Whole};
 
 mod fault;
-mod fields;
 mod letters;
 mod lines;
+mod names;
+mod rest;
 mod types;
 mod words;
 
 pub use fault::{Decline, LineFault, Misfigure};
-pub use fields::is_name;
-use fields::{LONGEST, ended, value};
 use lines::{
     announce_line, band_line, cancel_line, contract_line, deposit_line, fill_line, mark_line,
     order_line, product_line, spot_line, withdraw_line,
 };
+pub use names::is_name;
+use rest::Rest;
 pub use types::{Effect, Entry, Kind, Request, Right, Side, Terms};
 use words::{Word, read_word};
 
 // A word that has no fields says it all.
-fn bare<'a>(line: &'a [u8], at: usize, says: Request<'a>) -> Result<Request<'a>, LineFault>
-    requires { (at ≤ length line.now) × (length line.now ≤ 200) }
-    ensures { map_ok asked result ≡ and_then (end_at line.now at) (λ _. Ok (asked says.entry)) }
+fn bare<'a>(rest: Rest<'a>, says: Request<'a>) -> Result<Request<'a>, LineFault>
+    ensures { map_ok asked result ≡ and_then (end_at rest.entry.line.now rest.entry.at) (λ _. Ok (asked says.entry)) }
 {
-    ended(line, at)?;
+    rest.end()?;
     Ok(says)
 }
 
-// What follows the word.
-fn rest(word: Word, line: &[u8], at: usize) -> Result<Request<'_>, LineFault>
-    requires { (at ≤ length line.now) × (length line.now ≤ 200) }
-    ensures { map_ok asked result ≡ rest_at word line.now at }
+// What follows the word. A match, which is held to every word; a table of functions would not be.
+fn read_rest(word: Word, rest: Rest<'_>) -> Result<Request<'_>, LineFault>
+    ensures { map_ok asked result ≡ rest_at word rest.entry.line.now rest.entry.at }
 {
     match word {
-        Word::Product => product_line(line, at),
-        Word::Contract => contract_line(line, at),
-        Word::Announce => announce_line(line, at),
-        Word::Band => band_line(line, at),
-        Word::Spot => spot_line(line, at),
-        Word::Mark => mark_line(line, at),
-        Word::Deposit => deposit_line(line, at),
-        Word::Withdraw => withdraw_line(line, at),
-        Word::Cancel => cancel_line(line, at),
-        Word::Order => order_line(line, at),
-        Word::Fill => fill_line(line, at),
-        Word::Open => bare(line, at, Request::Enter(Entry::Open)),
-        Word::Close => bare(line, at, Request::Enter(Entry::Close)),
-        Word::Deadline => bare(line, at, Request::Enter(Entry::Deadline)),
-        Word::Report => bare(line, at, Request::Report),
+        Word::Product => product_line(rest),
+        Word::Contract => contract_line(rest),
+        Word::Announce => announce_line(rest),
+        Word::Band => band_line(rest),
+        Word::Spot => spot_line(rest),
+        Word::Mark => mark_line(rest),
+        Word::Deposit => deposit_line(rest),
+        Word::Withdraw => withdraw_line(rest),
+        Word::Cancel => cancel_line(rest),
+        Word::Order => order_line(rest),
+        Word::Fill => fill_line(rest),
+        Word::Open => bare(rest, Request::Enter(Entry::Open)),
+        Word::Close => bare(rest, Request::Enter(Entry::Close)),
+        Word::Deadline => bare(rest, Request::Enter(Entry::Deadline)),
+        Word::Report => bare(rest, Request::Report),
     }
-}
-
-// The form of a line, from its length to its last field.
-fn read(line: &[u8]) -> Result<Request<'_>, LineFault>
-    ensures { map_ok asked result ≡ line_of line.now }
-{
-    if line.len() > LONGEST {
-        return Err(LineFault::Form { at: LONGEST + 1 });
-    }
-    let first = value(line, 0);
-    let word = read_word(first)?;
-    rest(word, line, first.len())
 }
 
 // What a line says, or its first fault. The first 201 bytes of a line tell it.
@@ -77,5 +64,7 @@ pub fn read_line(line: &[u8]) -> Result<Request<'_>, LineFault>
     ensures whole { Whole line.now (map_ok asked result) }
     ensures front { (all : List ℕ) → line.now ≡ take 201 all → map_ok asked result ≡ line_of all }
 {
-    read(line)
+    let mut rest = Rest::of(line)?;
+    let word = read_word(rest.value())?;
+    read_rest(word, rest)
 }

@@ -1,53 +1,50 @@
-// Each word's fields, from the end of the word to the end of the line.
-ghost use Rattle.std.specs.Prelude.{◌≡◌, ◌≤◌, length, IfOk};
+// Each word's fields, from the end of the word to the end of the line. Words with fields alike, as deposit and withdraw, share no
+// function: it would take their keys and their case, and its contract would say no more than those of the parameters.
+ghost use Rattle.std.specs.Prelude.{◌≡◌};
 ghost use Rattle.entry.specs.Entries.{asked};
-ghost use Rattle.entry.specs.Fields.{map_ok};
+ghost use Rattle.entry.specs.Fields.{map_ok, ending};
 ghost use Rattle.entry.specs.Lines.{terms_at, rest_at};
 ghost use Rattle.entry.specs.declared.words.Word.TheVariants.{Product as ProductWord, Contract as ContractWord, Announce as AnnounceWord, Band as BandWord, Spot as SpotWord, Mark as MarkWord, Deposit as DepositWord, Withdraw as WithdrawWord, Cancel as CancelWord, Order as OrderWord, Fill as FillWord};
 
 use crate::fault::LineFault;
-use crate::fields::{ended, figure_field, letter_field, name_field};
+use crate::rest::Rest;
 use crate::types::{Entry, Request, Terms};
 
-// What is published of a product, and where its last field ends.
-fn terms_fields(line: &[u8], at: usize) -> Result<(Terms, usize), LineFault>
-    requires { (at ≤ length line.now) × (length line.now ≤ 200) }
-    ensures value { result ≡ terms_at line.now at }
-    ensures within { IfOk result (λ x. x.1 ≤ length line.now) }
+// What is published of a product.
+#[tactic(auto, unfolding(crate::specs::Lines::terms_at))]
+fn read_terms(rest: &mut Rest<'_>) -> Result<Terms, LineFault>
+    ensures value { ending rest.new.at result ≡ terms_at rest.old.line.now rest.old.at }
+    ensures line { rest.new.line.now ≡ rest.old.line.now }
 {
-    let (fee, at) = figure_field(line, at, b"fee=")?;
-    let (tax, at) = figure_field(line, at, b"tax=")?;
-    let (limit, at) = figure_field(line, at, b"limit=")?;
-    let (share, at) = figure_field(line, at, b"share=")?;
-    let (ia, at) = figure_field(line, at, b"ia=")?;
-    let (ib, at) = figure_field(line, at, b"ib=")?;
-    let (ma, at) = figure_field(line, at, b"ma=")?;
-    let (mb, at) = figure_field(line, at, b"mb=")?;
-    Ok((
-        Terms {
-            fee,
-            tax,
-            limit,
-            share,
-            ia,
-            ib,
-            ma,
-            mb,
-        },
-        at,
-    ))
+    let fee = rest.figure(b"fee=")?;
+    let tax = rest.figure(b"tax=")?;
+    let limit = rest.figure(b"limit=")?;
+    let share = rest.figure(b"share=")?;
+    let ia = rest.figure(b"ia=")?;
+    let ib = rest.figure(b"ib=")?;
+    let ma = rest.figure(b"ma=")?;
+    let mb = rest.figure(b"mb=")?;
+    Ok(Terms {
+        fee,
+        tax,
+        limit,
+        share,
+        ia,
+        ib,
+        ma,
+        mb,
+    })
 }
 
-pub(crate) fn product_line(line: &[u8], at: usize) -> Result<Request<'_>, LineFault>
-    requires { (at ≤ length line.now) × (length line.now ≤ 200) }
-    ensures { map_ok asked result ≡ rest_at ProductWord line.now at }
+pub(crate) fn product_line(mut rest: Rest<'_>) -> Result<Request<'_>, LineFault>
+    ensures { map_ok asked result ≡ rest_at ProductWord rest.entry.line.now rest.entry.at }
 {
-    let (name, at) = name_field(line, at, b"name=")?;
-    let (kind, at) = letter_field(line, at, b"kind=")?;
-    let (tick, at) = figure_field(line, at, b"tick=")?;
-    let (terms, at) = terms_fields(line, at)?;
-    let (spot, at) = figure_field(line, at, b"spot=")?;
-    ended(line, at)?;
+    let name = rest.name(b"name=")?;
+    let kind = rest.letter(b"kind=")?;
+    let tick = rest.figure(b"tick=")?;
+    let terms = read_terms(&mut rest)?;
+    let spot = rest.figure(b"spot=")?;
+    rest.end()?;
     Ok(Request::Enter(Entry::Product {
         name,
         kind,
@@ -57,18 +54,17 @@ pub(crate) fn product_line(line: &[u8], at: usize) -> Result<Request<'_>, LineFa
     }))
 }
 
-pub(crate) fn contract_line(line: &[u8], at: usize) -> Result<Request<'_>, LineFault>
-    requires { (at ≤ length line.now) × (length line.now ≤ 200) }
-    ensures { map_ok asked result ≡ rest_at ContractWord line.now at }
+pub(crate) fn contract_line(mut rest: Rest<'_>) -> Result<Request<'_>, LineFault>
+    ensures { map_ok asked result ≡ rest_at ContractWord rest.entry.line.now rest.entry.at }
 {
-    let (name, at) = name_field(line, at, b"name=")?;
-    let (product, at) = name_field(line, at, b"product=")?;
-    let (right, at) = letter_field(line, at, b"right=")?;
-    let (strike, at) = figure_field(line, at, b"strike=")?;
-    let (floor, at) = figure_field(line, at, b"floor=")?;
-    let (ceiling, at) = figure_field(line, at, b"ceiling=")?;
-    let (mark, at) = figure_field(line, at, b"mark=")?;
-    ended(line, at)?;
+    let name = rest.name(b"name=")?;
+    let product = rest.name(b"product=")?;
+    let right = rest.letter(b"right=")?;
+    let strike = rest.figure(b"strike=")?;
+    let floor = rest.figure(b"floor=")?;
+    let ceiling = rest.figure(b"ceiling=")?;
+    let mark = rest.figure(b"mark=")?;
+    rest.end()?;
     Ok(Request::Enter(Entry::Contract {
         name,
         product,
@@ -80,24 +76,22 @@ pub(crate) fn contract_line(line: &[u8], at: usize) -> Result<Request<'_>, LineF
     }))
 }
 
-pub(crate) fn announce_line(line: &[u8], at: usize) -> Result<Request<'_>, LineFault>
-    requires { (at ≤ length line.now) × (length line.now ≤ 200) }
-    ensures { map_ok asked result ≡ rest_at AnnounceWord line.now at }
+pub(crate) fn announce_line(mut rest: Rest<'_>) -> Result<Request<'_>, LineFault>
+    ensures { map_ok asked result ≡ rest_at AnnounceWord rest.entry.line.now rest.entry.at }
 {
-    let (name, at) = name_field(line, at, b"name=")?;
-    let (terms, at) = terms_fields(line, at)?;
-    ended(line, at)?;
+    let name = rest.name(b"name=")?;
+    let terms = read_terms(&mut rest)?;
+    rest.end()?;
     Ok(Request::Enter(Entry::Announce { name, terms }))
 }
 
-pub(crate) fn band_line(line: &[u8], at: usize) -> Result<Request<'_>, LineFault>
-    requires { (at ≤ length line.now) × (length line.now ≤ 200) }
-    ensures { map_ok asked result ≡ rest_at BandWord line.now at }
+pub(crate) fn band_line(mut rest: Rest<'_>) -> Result<Request<'_>, LineFault>
+    ensures { map_ok asked result ≡ rest_at BandWord rest.entry.line.now rest.entry.at }
 {
-    let (contract, at) = name_field(line, at, b"contract=")?;
-    let (floor, at) = figure_field(line, at, b"floor=")?;
-    let (ceiling, at) = figure_field(line, at, b"ceiling=")?;
-    ended(line, at)?;
+    let contract = rest.name(b"contract=")?;
+    let floor = rest.figure(b"floor=")?;
+    let ceiling = rest.figure(b"ceiling=")?;
+    rest.end()?;
     Ok(Request::Enter(Entry::Band {
         contract,
         floor,
@@ -105,63 +99,57 @@ pub(crate) fn band_line(line: &[u8], at: usize) -> Result<Request<'_>, LineFault
     }))
 }
 
-pub(crate) fn spot_line(line: &[u8], at: usize) -> Result<Request<'_>, LineFault>
-    requires { (at ≤ length line.now) × (length line.now ≤ 200) }
-    ensures { map_ok asked result ≡ rest_at SpotWord line.now at }
+pub(crate) fn spot_line(mut rest: Rest<'_>) -> Result<Request<'_>, LineFault>
+    ensures { map_ok asked result ≡ rest_at SpotWord rest.entry.line.now rest.entry.at }
 {
-    let (product, at) = name_field(line, at, b"product=")?;
-    let (price, at) = figure_field(line, at, b"price=")?;
-    ended(line, at)?;
+    let product = rest.name(b"product=")?;
+    let price = rest.figure(b"price=")?;
+    rest.end()?;
     Ok(Request::Enter(Entry::Spot { product, price }))
 }
 
-pub(crate) fn mark_line(line: &[u8], at: usize) -> Result<Request<'_>, LineFault>
-    requires { (at ≤ length line.now) × (length line.now ≤ 200) }
-    ensures { map_ok asked result ≡ rest_at MarkWord line.now at }
+pub(crate) fn mark_line(mut rest: Rest<'_>) -> Result<Request<'_>, LineFault>
+    ensures { map_ok asked result ≡ rest_at MarkWord rest.entry.line.now rest.entry.at }
 {
-    let (contract, at) = name_field(line, at, b"contract=")?;
-    let (price, at) = figure_field(line, at, b"price=")?;
-    ended(line, at)?;
+    let contract = rest.name(b"contract=")?;
+    let price = rest.figure(b"price=")?;
+    rest.end()?;
     Ok(Request::Enter(Entry::Mark { contract, price }))
 }
 
-pub(crate) fn deposit_line(line: &[u8], at: usize) -> Result<Request<'_>, LineFault>
-    requires { (at ≤ length line.now) × (length line.now ≤ 200) }
-    ensures { map_ok asked result ≡ rest_at DepositWord line.now at }
+pub(crate) fn deposit_line(mut rest: Rest<'_>) -> Result<Request<'_>, LineFault>
+    ensures { map_ok asked result ≡ rest_at DepositWord rest.entry.line.now rest.entry.at }
 {
-    let (amount, at) = figure_field(line, at, b"amount=")?;
-    ended(line, at)?;
+    let amount = rest.figure(b"amount=")?;
+    rest.end()?;
     Ok(Request::Enter(Entry::Deposit { amount }))
 }
 
-pub(crate) fn withdraw_line(line: &[u8], at: usize) -> Result<Request<'_>, LineFault>
-    requires { (at ≤ length line.now) × (length line.now ≤ 200) }
-    ensures { map_ok asked result ≡ rest_at WithdrawWord line.now at }
+pub(crate) fn withdraw_line(mut rest: Rest<'_>) -> Result<Request<'_>, LineFault>
+    ensures { map_ok asked result ≡ rest_at WithdrawWord rest.entry.line.now rest.entry.at }
 {
-    let (amount, at) = figure_field(line, at, b"amount=")?;
-    ended(line, at)?;
+    let amount = rest.figure(b"amount=")?;
+    rest.end()?;
     Ok(Request::Enter(Entry::Withdraw { amount }))
 }
 
-pub(crate) fn cancel_line(line: &[u8], at: usize) -> Result<Request<'_>, LineFault>
-    requires { (at ≤ length line.now) × (length line.now ≤ 200) }
-    ensures { map_ok asked result ≡ rest_at CancelWord line.now at }
+pub(crate) fn cancel_line(mut rest: Rest<'_>) -> Result<Request<'_>, LineFault>
+    ensures { map_ok asked result ≡ rest_at CancelWord rest.entry.line.now rest.entry.at }
 {
-    let (order, at) = figure_field(line, at, b"order=")?;
-    ended(line, at)?;
+    let order = rest.figure(b"order=")?;
+    rest.end()?;
     Ok(Request::Enter(Entry::Cancel { order }))
 }
 
-pub(crate) fn order_line(line: &[u8], at: usize) -> Result<Request<'_>, LineFault>
-    requires { (at ≤ length line.now) × (length line.now ≤ 200) }
-    ensures { map_ok asked result ≡ rest_at OrderWord line.now at }
+pub(crate) fn order_line(mut rest: Rest<'_>) -> Result<Request<'_>, LineFault>
+    ensures { map_ok asked result ≡ rest_at OrderWord rest.entry.line.now rest.entry.at }
 {
-    let (contract, at) = name_field(line, at, b"contract=")?;
-    let (side, at) = letter_field(line, at, b"side=")?;
-    let (effect, at) = letter_field(line, at, b"effect=")?;
-    let (lots, at) = figure_field(line, at, b"lots=")?;
-    let (price, at) = figure_field(line, at, b"price=")?;
-    ended(line, at)?;
+    let contract = rest.name(b"contract=")?;
+    let side = rest.letter(b"side=")?;
+    let effect = rest.letter(b"effect=")?;
+    let lots = rest.figure(b"lots=")?;
+    let price = rest.figure(b"price=")?;
+    rest.end()?;
     Ok(Request::Enter(Entry::Order {
         contract,
         side,
@@ -171,13 +159,12 @@ pub(crate) fn order_line(line: &[u8], at: usize) -> Result<Request<'_>, LineFaul
     }))
 }
 
-pub(crate) fn fill_line(line: &[u8], at: usize) -> Result<Request<'_>, LineFault>
-    requires { (at ≤ length line.now) × (length line.now ≤ 200) }
-    ensures { map_ok asked result ≡ rest_at FillWord line.now at }
+pub(crate) fn fill_line(mut rest: Rest<'_>) -> Result<Request<'_>, LineFault>
+    ensures { map_ok asked result ≡ rest_at FillWord rest.entry.line.now rest.entry.at }
 {
-    let (order, at) = figure_field(line, at, b"order=")?;
-    let (lots, at) = figure_field(line, at, b"lots=")?;
-    let (price, at) = figure_field(line, at, b"price=")?;
-    ended(line, at)?;
+    let order = rest.figure(b"order=")?;
+    let lots = rest.figure(b"lots=")?;
+    let price = rest.figure(b"price=")?;
+    rest.end()?;
     Ok(Request::Enter(Entry::Fill { order, lots, price }))
 }

@@ -7,7 +7,7 @@ pub enum Kind {
     Options,
 }
 
-// What an option gives its holder; a future gives neither right.
+// What an option gives its holder; a future gives neither right. No `Option`: neither right has a letter of its own in a line.
 #[derive(Clone, Copy, Debug, PartialEq, Drop)]
 pub enum Right {
     Neither,
@@ -103,7 +103,7 @@ pub enum Entry<'a> {
     Deadline,
 }
 
-// A line enters something or asks for the report.
+// A line enters something or asks for the report. No `Option`: a question is not the lack of an entry.
 #[derive(Clone, Copy, Drop)]
 pub enum Request<'a> {
     Enter(Entry<'a>),

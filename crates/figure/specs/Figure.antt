@@ -1,5 +1,6 @@
 -- What a figure is, over lists of bytes, and the law that none is dropped and none is guessed.
-use Rattle.std.specs.Prelude.{◌≡◌, ℕ, ◌+◌, ◌-◌, ◌*◌, ◌^◌, ◌<◌, Bool, true, cond, ◌&&◌, List, [], ◌∷◌, length, ℤ, pos, negsuc, Ok, Err, decimal, Result, ◌==◌, nat_le, nat_lt, slice_index}
+use Rattle.std.specs.Prelude.{◌≡◌, ℕ, ◌+◌, ◌-◌, ◌*◌, ◌^◌, ◌<◌, Bool, cond, ◌&&◌, List, [], ◌∷◌, length, ℤ, pos, negsuc, Ok, Err, decimal, Result, ◌==◌, nat_le, nat_lt, slice_index}
+use Rattle.std.specs.List.{list_all}
 use Rattle.figure.specs.declared.FigureFault.{FigureFault}
 use Rattle.figure.specs.declared.FigureFault.TheVariants.{Empty, TooLong, LeadingZero, NotDigit}
 
@@ -11,11 +12,6 @@ and_then (Err e) f = Err e
 -- the bytes of the characters 0 to 9
 abbrev pub is_digit : ℕ → Bool
 is_digit b = nat_le 48 b && nat_le b 57
-
--- each byte passes
-abbrev pub every : (ℕ → Bool) → List ℕ → Bool
-every test [] = true
-every test (b ∷ bs) = test b && every test bs
 
 -- the number that digits write behind those of n
 abbrev pub value_after : ℕ → List ℕ → ℕ
@@ -32,7 +28,7 @@ digit_of b = cond (is_digit b) (Ok (b - 48)) (Err NotDigit)
 
 -- the number that bytes write behind the digits of n, all of them digits
 abbrev pub numbered : ℕ → List ℕ → Result ℕ FigureFault
-numbered n bs = cond (every is_digit bs) (Ok (value_after n bs)) (Err NotDigit)
+numbered n bs = cond (list_all is_digit bs) (Ok (value_after n bs)) (Err NotDigit)
 
 -- 1 to 15 digits, no leading zero but in 0 itself, nothing after
 abbrev pub figure_of : List ℕ → Result ℕ FigureFault

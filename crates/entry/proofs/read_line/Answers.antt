@@ -1,13 +1,20 @@
-use Rattle.std.proofs.Common.{sym, ap, ◌∙◌, subst}
-use Rattle.entry.specs.Faults.{map_err, decline_of}
-use Rattle.entry.specs.Lines.{line_of, Whole}
-use Rattle.entry.proofs.WholeLine.{line_whole, front_tells}
+-- At each exit the answer is what the line says, so it is whole and the front tells it.
+use Rattle.std.proofs.Common.{rules, arith}
+use Rattle.std.proofs.lemmas.Grind.{common_steps}
+use Rattle.entry.proofs.WholeLine.{told_whole, told_front}
 use Rattle.entry.proofs.read_line.Goals as goal
 
-pub returns : goal.returns
-returns c = record {
-  value = c.read.ensures;
-  told = ap (map_err decline_of) c.read.ensures;
-  whole = subst (Whole c.args.line.now) (sym c.read.ensures) (line_whole c.args.line.now);
-  front = λ all is. c.read.ensures ∙ ap line_of is ∙ front_tells all;
-}
+pub returns-in_err-rest-clause-front : goal.returns-in_err-rest-clause-front
+returns-in_err-rest-clause-front c = told_front c.args.line.now _ (search rules)
+
+pub returns-in_err-word-clause-whole : goal.returns-in_err-word-clause-whole
+returns-in_err-word-clause-whole c = told_whole c.args.line.now _ (search rules)
+
+pub returns-in_err-word-clause-front : goal.returns-in_err-word-clause-front
+returns-in_err-word-clause-front c = told_front c.args.line.now _ (search rules)
+
+pub returns-clause-whole : goal.returns-clause-whole
+returns-clause-whole c = told_whole c.args.line.now _ (grind (arith, common_steps))
+
+pub returns-clause-front : goal.returns-clause-front
+returns-clause-front c = told_front c.args.line.now _ (grind (arith, common_steps))
