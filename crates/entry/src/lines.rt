@@ -1,5 +1,5 @@
-// Each word's fields, from the end of the word to the end of the line. Words with fields alike, as deposit and withdraw, share no
-// function: it would take their keys and their case, and its contract would say no more than those of the parameters.
+// Each word's fields, from the end of the word to the end of the line. Words with fields alike, as deposit and withdraw, stay apart: a
+// function for both would take its keys and its case as parameters, and be no shorter than the two.
 ghost use Rattle.std.specs.Prelude.{◌≡◌};
 ghost use Rattle.entry.specs.Entries.{asked};
 ghost use Rattle.entry.specs.Fields.{map_ok, ending};
