@@ -1,7 +1,6 @@
 -- One field of a line, read at a place: the value and the place behind it, or the fault with its column. Columns count
 -- from 1, places from 0.
 use Rattle.std.specs.Prelude.{ℕ, ◌+◌, Bool, cond, ◌&&◌, ◌||◌, List, [], ◌∷◌, length, take, drop, Some, None, Ok, Err, Option, Result, ◌==◌, nat_le, nat_lt, slice_index}
-use Rattle.std.specs.Borrow.{Bor}
 use Rattle.std.specs.Str.{bytes_eq}
 use Rattle.std.specs.List.{list_all}
 use Rattle.figure.specs.Figure.{and_then, figure_of}
@@ -77,10 +76,6 @@ is_name bs = nat_lt 0 (length bs) && (nat_le (length bs) 8 && list_all is_name_b
 
 abbrev pub name_in : ℕ → List ℕ → Result (List ℕ) LineFault
 name_in column bs = cond (is_name bs) (Ok bs) (Err (Form column))
-
--- the bytes of a name that is a part of the line
-abbrev pub name_of : Bor (List ℕ) × ℕ → List ℕ × ℕ
-name_of x = (x.0.now, x.1)
 
 -- a single letter that stands for something
 abbrev pub or_form : {A : Type 0} → ℕ → Option A → Result A LineFault
