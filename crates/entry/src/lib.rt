@@ -26,14 +26,6 @@ use rest::Rest;
 pub use types::{Effect, Entry, Kind, Request, Right, Side, Terms};
 use words::{Word, read_word};
 
-// A word that has no fields says it all.
-fn bare<'a>(rest: Rest<'a>, says: Request<'a>) -> Result<Request<'a>, LineFault>
-    ensures { map_ok asked result ≡ and_then (end_at rest.entry.line.now rest.entry.at) (λ _. Ok (asked says.entry)) }
-{
-    rest.end()?;
-    Ok(says)
-}
-
 // What follows the word. A match, which is held to every word; a table of functions would not be.
 fn read_rest(word: Word, rest: Rest<'_>) -> Result<Request<'_>, LineFault>
     ensures { map_ok asked result ≡ rest_at word rest.entry.line.now rest.entry.at }
@@ -50,10 +42,10 @@ fn read_rest(word: Word, rest: Rest<'_>) -> Result<Request<'_>, LineFault>
         Word::Cancel => cancel_line(rest),
         Word::Order => order_line(rest),
         Word::Fill => fill_line(rest),
-        Word::Open => bare(rest, Request::Enter(Entry::Open)),
-        Word::Close => bare(rest, Request::Enter(Entry::Close)),
-        Word::Deadline => bare(rest, Request::Enter(Entry::Deadline)),
-        Word::Report => bare(rest, Request::Report),
+        Word::Open => rest.says(Request::Enter(Entry::Open)),
+        Word::Close => rest.says(Request::Enter(Entry::Close)),
+        Word::Deadline => rest.says(Request::Enter(Entry::Deadline)),
+        Word::Report => rest.says(Request::Report),
     }
 }
 

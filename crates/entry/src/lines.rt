@@ -44,8 +44,7 @@ pub(crate) fn product_line(mut rest: Rest<'_>) -> Result<Request<'_>, LineFault>
     let tick = rest.figure(b"tick=")?;
     let terms = read_terms(&mut rest)?;
     let spot = rest.figure(b"spot=")?;
-    rest.end()?;
-    Ok(Request::Enter(Entry::Product {
+    rest.says(Request::Enter(Entry::Product {
         name,
         kind,
         tick,
@@ -64,8 +63,7 @@ pub(crate) fn contract_line(mut rest: Rest<'_>) -> Result<Request<'_>, LineFault
     let floor = rest.figure(b"floor=")?;
     let ceiling = rest.figure(b"ceiling=")?;
     let mark = rest.figure(b"mark=")?;
-    rest.end()?;
-    Ok(Request::Enter(Entry::Contract {
+    rest.says(Request::Enter(Entry::Contract {
         name,
         product,
         right,
@@ -81,8 +79,7 @@ pub(crate) fn announce_line(mut rest: Rest<'_>) -> Result<Request<'_>, LineFault
 {
     let name = rest.name(b"name=")?;
     let terms = read_terms(&mut rest)?;
-    rest.end()?;
-    Ok(Request::Enter(Entry::Announce { name, terms }))
+    rest.says(Request::Enter(Entry::Announce { name, terms }))
 }
 
 pub(crate) fn band_line(mut rest: Rest<'_>) -> Result<Request<'_>, LineFault>
@@ -91,8 +88,7 @@ pub(crate) fn band_line(mut rest: Rest<'_>) -> Result<Request<'_>, LineFault>
     let contract = rest.name(b"contract=")?;
     let floor = rest.figure(b"floor=")?;
     let ceiling = rest.figure(b"ceiling=")?;
-    rest.end()?;
-    Ok(Request::Enter(Entry::Band {
+    rest.says(Request::Enter(Entry::Band {
         contract,
         floor,
         ceiling,
@@ -104,8 +100,7 @@ pub(crate) fn spot_line(mut rest: Rest<'_>) -> Result<Request<'_>, LineFault>
 {
     let product = rest.name(b"product=")?;
     let price = rest.figure(b"price=")?;
-    rest.end()?;
-    Ok(Request::Enter(Entry::Spot { product, price }))
+    rest.says(Request::Enter(Entry::Spot { product, price }))
 }
 
 pub(crate) fn mark_line(mut rest: Rest<'_>) -> Result<Request<'_>, LineFault>
@@ -113,32 +108,28 @@ pub(crate) fn mark_line(mut rest: Rest<'_>) -> Result<Request<'_>, LineFault>
 {
     let contract = rest.name(b"contract=")?;
     let price = rest.figure(b"price=")?;
-    rest.end()?;
-    Ok(Request::Enter(Entry::Mark { contract, price }))
+    rest.says(Request::Enter(Entry::Mark { contract, price }))
 }
 
 pub(crate) fn deposit_line(mut rest: Rest<'_>) -> Result<Request<'_>, LineFault>
     ensures { map_ok asked result ≡ rest_at DepositWord rest.entry.line.now rest.entry.at }
 {
     let amount = rest.figure(b"amount=")?;
-    rest.end()?;
-    Ok(Request::Enter(Entry::Deposit { amount }))
+    rest.says(Request::Enter(Entry::Deposit { amount }))
 }
 
 pub(crate) fn withdraw_line(mut rest: Rest<'_>) -> Result<Request<'_>, LineFault>
     ensures { map_ok asked result ≡ rest_at WithdrawWord rest.entry.line.now rest.entry.at }
 {
     let amount = rest.figure(b"amount=")?;
-    rest.end()?;
-    Ok(Request::Enter(Entry::Withdraw { amount }))
+    rest.says(Request::Enter(Entry::Withdraw { amount }))
 }
 
 pub(crate) fn cancel_line(mut rest: Rest<'_>) -> Result<Request<'_>, LineFault>
     ensures { map_ok asked result ≡ rest_at CancelWord rest.entry.line.now rest.entry.at }
 {
     let order = rest.figure(b"order=")?;
-    rest.end()?;
-    Ok(Request::Enter(Entry::Cancel { order }))
+    rest.says(Request::Enter(Entry::Cancel { order }))
 }
 
 pub(crate) fn order_line(mut rest: Rest<'_>) -> Result<Request<'_>, LineFault>
@@ -149,8 +140,7 @@ pub(crate) fn order_line(mut rest: Rest<'_>) -> Result<Request<'_>, LineFault>
     let effect = rest.letter(b"effect=")?;
     let lots = rest.figure(b"lots=")?;
     let price = rest.figure(b"price=")?;
-    rest.end()?;
-    Ok(Request::Enter(Entry::Order {
+    rest.says(Request::Enter(Entry::Order {
         contract,
         side,
         effect,
@@ -165,6 +155,5 @@ pub(crate) fn fill_line(mut rest: Rest<'_>) -> Result<Request<'_>, LineFault>
     let order = rest.figure(b"order=")?;
     let lots = rest.figure(b"lots=")?;
     let price = rest.figure(b"price=")?;
-    rest.end()?;
-    Ok(Request::Enter(Entry::Fill { order, lots, price }))
+    rest.says(Request::Enter(Entry::Fill { order, lots, price }))
 }

@@ -1,11 +1,14 @@
 // What is left of a line: fields, each a blank, a key that ends in an equals sign, and a value up to the next blank or the line's end.
-ghost use Rattle.std.specs.Prelude.{◌≡◌, ◌+◌, ◌≤◌, ◌==◌, length};
+ghost use Rattle.std.specs.Prelude.{◌≡◌, ◌+◌, ◌≤◌, ◌==◌, length, Ok};
 ghost use Rattle.std.specs.List.{position};
+ghost use Rattle.figure.specs.Figure.{and_then};
+ghost use Rattle.entry.specs.Entries.{asked};
 ghost use Rattle.entry.specs.Fields.{map_ok, ending, all_of, word, value_at, key_at, end_at, field_at, unread, figure_in, name_in, letter_in};
 
 use crate::fault::{LineFault, Misfigure};
 use crate::letters::Letter;
 use crate::names::is_name;
+use crate::types::Request;
 use figure::read_figure;
 
 // The longest line, without its line feed.
@@ -135,7 +138,7 @@ impl<'a> Rest<'a> {
     }
 
     // Nothing more may stand on the line.
-    pub(crate) fn end(&self) -> Result<(), LineFault>
+    fn end(&self) -> Result<(), LineFault>
         ensures { result ≡ end_at self.now.line.now self.now.at }
     {
         if self.at < self.line.len() {
@@ -143,5 +146,13 @@ impl<'a> Rest<'a> {
         } else {
             Ok(())
         }
+    }
+
+    // What the line says, if it ends here.
+    pub(crate) fn says(self, request: Request<'a>) -> Result<Request<'a>, LineFault>
+        ensures { map_ok asked result ≡ and_then (end_at self.entry.line.now self.entry.at) (λ _. Ok (asked request.entry)) }
+    {
+        self.end()?;
+        Ok(request)
     }
 }

@@ -18,10 +18,6 @@ pub returns-in_err-mark : goal.returns-in_err-mark
 unfolding field_at
 returns-in_err-mark c = search rules
 
-pub returns-in_err-end : goal.returns-in_err-end
-unfolding field_at
-returns-in_err-end c = search rules
-
 pub returns : goal.returns
 unfolding field_at
 returns c = search rules

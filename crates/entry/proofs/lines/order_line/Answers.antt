@@ -1,4 +1,5 @@
-use Rattle.std.proofs.Common.{rules}
+use Rattle.std.proofs.Common.{rules, arith}
+use Rattle.std.proofs.lemmas.Grind.{common_steps}
 use Rattle.entry.specs.Fields.{field_at}
 use Rattle.entry.proofs.lines.order_line.Goals as goal
 
@@ -10,10 +11,6 @@ pub returns-in_err-price : goal.returns-in_err-price
 unfolding field_at
 returns-in_err-price c = search rules
 
-pub returns-in_err-end : goal.returns-in_err-end
-unfolding field_at
-returns-in_err-end c = search rules
-
 pub returns : goal.returns
 unfolding field_at
-returns c = search rules
+returns c = grind (arith, common_steps)
