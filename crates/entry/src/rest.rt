@@ -49,6 +49,7 @@ fn word(bytes: &[u8]) -> &[u8]
     }
 }
 
+// Each method that goes on says that the line stays: a fact of two moments, which no type can hold.
 impl<'a> Rest<'a> {
     // All of a line, unless it is too long.
     pub(crate) fn of(line: &'a [u8]) -> Result<Rest<'a>, LineFault>
