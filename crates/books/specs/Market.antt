@@ -1,6 +1,7 @@
 -- The products and contracts of an account, read by their places or found by their names; prices, ticks and the figure that the
 -- exchange publishes for a lot. Assumes nothing.
 use Rattle.std.specs.Prelude.{ℕ, ◌+◌, ◌-◌, ◌*◌, ◌/◌, max, Bool, true, false, List, [], Some, None, Option, slice_index_or, slice_set}
+use Rattle.std.specs.List.{position}
 use Rattle.entry.specs.declared.types.Kind.{Kind}
 use Rattle.entry.specs.declared.types.Kind.TheVariants.{Futures, Options}
 use Rattle.entry.specs.declared.types.Right.{Right}
@@ -8,7 +9,6 @@ use Rattle.entry.specs.declared.types.Right.TheVariants.{Neither, Call, Put}
 use Rattle.entry.specs.declared.types.Side.{Side}
 use Rattle.entry.specs.declared.types.Side.TheVariants.{Buy, Sell}
 use Rattle.entry.specs.declared.types.Terms.{Terms}
-use Rattle.table.specs.First.{first_by}
 use Rattle.books.specs.declared.rows.Product.{Product}
 use Rattle.books.specs.declared.rows.Contract.{Contract}
 use Rattle.books.specs.Names.{name_of, is_same_name}
@@ -55,10 +55,10 @@ product_of m c = product_at m (contract_at m c).product
 
 -- ---- places by name: the first row that bears it
 abbrev pub product_named : Market → List ℕ → Option ℕ
-product_named m name = first_by (λ p. is_same_name name p.name) m.products
+product_named m name = position (λ p. is_same_name name p.name) m.products
 
 abbrev pub contract_named : Market → List ℕ → Option ℕ
-contract_named m name = first_by (λ c. is_same_name name c.name) m.contracts
+contract_named m name = position (λ c. is_same_name name c.name) m.contracts
 
 -- the row at a place that was found, or the row of nothing
 abbrev pub row_at : {A : Type 0} → A → List A → Option ℕ → A

@@ -1,5 +1,6 @@
 -- The tests of each entry, in the order of the decline table: the first that fails is the answer. Assumes nothing.
 use Rattle.std.specs.Prelude.{ℕ, ◌+◌, ◌*◌, Bool, true, false, cond, not, ◌&&◌, List, [], ◌∷◌, length, ℤ, pos, ◌+ℤ◌, ◌-ℤ◌, is_some, Some, None, Ok, Err, Option, Result, ◌==◌, int_le, nat_le, nat_lt, unsigned_abs}
+use Rattle.std.specs.List.{position}
 use Rattle.entry.specs.Entries.{Said, lists_product, lists_contract, announces, sets_band, sets_spot, sets_mark, deposits, withdraws, cancels, orders, fills, opens, closes, ends_deadline}
 use Rattle.entry.specs.Fields.{is_name}
 use Rattle.entry.specs.declared.types.Kind.{Kind}
@@ -10,7 +11,6 @@ use Rattle.entry.specs.declared.types.Effect.{Effect}
 use Rattle.entry.specs.declared.types.Effect.TheVariants.{Opening, Closing}
 use Rattle.entry.specs.declared.types.Terms.{Terms}
 use Rattle.margin_rule.specs.Meanings.{Meaning}
-use Rattle.table.specs.First.{first_by}
 use Rattle.books.specs.declared.phase.Phase.{Phase}
 use Rattle.books.specs.declared.phase.Phase.TheVariants.{Before, Regular, Settled, AfterHours}
 use Rattle.books.specs.declared.phase.Call.{Call as MarginCall}
@@ -97,7 +97,7 @@ abbrev pub contract_by : Market → List ℕ → Contract
 contract_by m name = row_at no_contract m.contracts (contract_named m name)
 
 abbrev pub order_place : Books → ℕ → Option ℕ
-order_place b n = first_by (λ o. numbered n o.of) b.orders
+order_place b n = position (λ o. numbered n o.of) b.orders
 
 abbrev pub order_by : Books → ℕ → Lots Order
 order_by b n = row_at no_order b.orders (order_place b n)

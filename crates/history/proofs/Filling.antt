@@ -3,6 +3,7 @@
 use Rattle.std.proofs.Common.{◌≡◌, ℕ, ◌+◌, ◌-◌, ◌*◌, ◌≤◌, max, List, ℤ, pos, ◌+ℤ◌, ◌-ℤ◌, ◌≤ℤ◌, Some, sym, refl, ap, ◌∙◌, subst₂, mul-le-mul_right, mul-le-mul_left, arith}
 use borrow.Author.Differences.{up, down}
 use Rattle.std.proofs.lemmas.Int.{ints}
+use Rattle.std.specs.List.{find}
 use Rattle.entry.specs.declared.types.Kind.{Kind}
 use Rattle.entry.specs.declared.types.Kind.TheVariants.{Futures, Options}
 use Rattle.entry.specs.declared.types.Side.{Side}
@@ -19,7 +20,7 @@ use Rattle.books.specs.Market.{Market, Prices, initially, by_kind, by_side, prod
 use Rattle.books.specs.Books.{Books, by_effect, numbered, closable}
 use Rattle.books.specs.Figures.{result, results, equity, lot_gain, gain, needs, initial_need, lot_reserve, reserved, available}
 use Rattle.books.specs.Effects.{opened_line, lines_filled, realised, premium_in, premium_out, fees_of, taxes_of, filled}
-use Rattle.history.proofs.Sums.{first, weigh-push, weigh-left, weigh-left_le, weigh-first}
+use Rattle.history.proofs.Sums.{weigh-push, weigh-left, weigh-left_le, weigh-first}
 use Rattle.history.proofs.Results.{result_is, results_push, results_closed}
 use Rattle.history.proofs.Needs.{needs_fewer, needs_opened, lot_share}
 
@@ -108,7 +109,7 @@ settles x x' moved gain gain' need need' kept kept' sur in' out fee tax made los
 
 -- available falls by fee and tax at most
 pub fill_available : (rule : Meaning) (laws : Laws rule) (b : Books) (n k p : ℕ) (o : Lots Order) →
-    first (λ x. numbered n x.of) b.orders ≡ Some o → worse o.of.side p o.of.limit ≡ 0 → k ≤ o.count → Closes o.of k b.lines →
+    find (λ x. numbered n x.of) b.orders ≡ Some o → worse o.of.side p o.of.limit ≡ 0 → k ≤ o.count → Closes o.of k b.lines →
     available rule b ≤ℤ (available rule (filled b n o.of k p) +ℤ pos (fees_of b.market o.of k + taxes_of b.market o.of k p))
 fill_available rule laws b n k p o e w h room =
     let m = b.market in

@@ -4,6 +4,7 @@ use Rattle.std.proofs.ByRecursion.{All-from_get_or, All-weaker}
 use Rattle.std.proofs.lemmas.List.{length_push}
 use Rattle.std.proofs.lemmas.Int.{ints}
 use Rattle.std.proofs.lemmas.Bool.{both_ways}
+use Rattle.std.specs.List.{find}
 use Rattle.entry.specs.declared.types.Effect.{Effect}
 use Rattle.entry.specs.declared.types.Effect.TheVariants.{Opening, Closing}
 use Rattle.books.specs.declared.rows.Lots.{Lots}
@@ -16,7 +17,7 @@ use Rattle.books.specs.Books.{Books, no_order, by_effect, numbered, closable, op
 use Rattle.books.specs.Figures.{results}
 use Rattle.books.specs.Effects.{opened_line, lines_filled, realised, premium_in, premium_out, fees_of, taxes_of, balance_filled, filled}
 use Rattle.books.specs.Sound.{Sound, Each, Affordable, OrderFits, LineFits, Roomy, LotsCounted, BalanceFits, lots_moved, no_line}
-use Rattle.history.proofs.Sums.{weigh-push, weigh-left, weigh-left_le, weigh-first, weigh-count, first}
+use Rattle.history.proofs.Sums.{weigh-push, weigh-left, weigh-left_le, weigh-first, weigh-count}
 use Rattle.history.proofs.KeepsRows.{each_push}
 use Rattle.history.proofs.KeepsOrders.{left_length, each_left, numbers_left}
 use Rattle.history.proofs.KeepsHeld.{closed_held, held_fill}
@@ -36,7 +37,7 @@ balance_with b o k price r =
 
 -- k lots of the order o with the number n at a price, all as tested
 module _ (b : Books) (s : Sound b) (n k price : ℕ) (o : Lots Order)
-    (e : first (λ x. numbered n x.of) b.orders ≡ Some o) (fits : OrderFits b.market b.given o)
+    (e : find (λ x. numbered n x.of) b.orders ≡ Some o) (fits : OrderFits b.market b.given o)
     (some : 1 ≤ k) (all : k ≤ o.count) (worth : Affordable b.market o.of.contract price) where
   standing_fewer : all_lots (left (numbered n) k b.orders) + k ≡ all_lots b.orders
   standing_fewer = omega (arith, weigh-left (λ o. 1) (numbered n) k b.orders, weigh-first (λ o. 1) (numbered n) k b.orders o e all)

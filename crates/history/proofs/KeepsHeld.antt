@@ -2,6 +2,7 @@
 use Rattle.std.proofs.Common.{◌≡◌, ℕ, ◌+◌, ◌*◌, ◌≤◌, Bool, true, false, ◌&&◌, eqb, List, [], ◌∷◌, ◌++◌, Some, sym, refl, ap, ◌∙◌, ap₂, subst₂, arith}
 use Rattle.std.proofs.lemmas.Bool.{and_parts, eqb-true}
 use Rattle.std.proofs.lemmas.Bool.Decides.{nat_tests}
+use Rattle.std.specs.List.{find}
 use Rattle.entry.specs.declared.types.Side.{Side}
 use Rattle.entry.specs.declared.types.Side.TheVariants.{Buy, Sell}
 use Rattle.entry.specs.declared.types.Effect.{Effect}
@@ -15,7 +16,7 @@ use Rattle.books.specs.Books.{ordered, by_effect, numbered, of_contract, closabl
 use Rattle.books.specs.Effects.{lines_filled, opened_line}
 use Rattle.books.specs.Sound.{Held}
 use Rattle.history.proofs.Results.{of_contract_lem}
-use Rattle.history.proofs.Sums.{weigh-push, weigh-left, weigh-first, weigh-count, weigh-kind, weigh-scale, first}
+use Rattle.history.proofs.Sums.{weigh-push, weigh-left, weigh-first, weigh-count, weigh-kind, weigh-scale}
 
 -- ---- sides
 turned : (t z : Side) → same_side t (other_side z) ≡ true → other_side t ≡ z
@@ -77,7 +78,7 @@ module _ (os : List (Lots Order)) (ls : List (Lots Position)) (h : Held os ls) w
   pub held_left : (p : Order → Bool) (k : ℕ) → Held (left p k os) ls
   held_left p k c z = omega (arith, weigh-left (λ o. one_if (closes_on c z o)) p k os, h c z)
 
-  module _ (n k : ℕ) (o : Lots Order) (e : first (λ x. numbered n x.of) os ≡ Some o) (l : k ≤ o.count) where
+  module _ (n k : ℕ) (o : Lots Order) (e : find (λ x. numbered n x.of) os ≡ Some o) (l : k ≤ o.count) where
     -- a closing order's lots are there
     pub closed_held : o.of.effect ≡ Closing → k ≤ lots_of (closable o.of) ls
     closed_held f =

@@ -2,12 +2,11 @@
 use Rattle.std.proofs.Common.{◌≡◌, ℕ, zero, suc, ◌<◌, Bool, true, List, [], ◌∷◌, ◌++◌, length, get_or, set, is_some, Some, None, Option, refl, ap}
 use Rattle.std.proofs.lemmas.List.{length-set}
 use Rattle.std.proofs.ByRecursion.{All-get_or, All-from_get_or, All-push}
-use Rattle.std.specs.List.{AllByRecursion}
-use Rattle.table.specs.First.{first_by}
+use Rattle.std.specs.List.{AllByRecursion, find, position}
 use Rattle.books.specs.Market.{row_at, changed_at}
 use Rattle.books.specs.Sound.{Each}
 use Rattle.books.specs.Tests.{place_of}
-use Rattle.history.proofs.Sums.{first, found}
+use Rattle.history.proofs.Sums.{found}
 use Rattle.history.proofs.Tested.{some_place}
 
 -- ---- a row that was found
@@ -15,12 +14,12 @@ row_at-some : {A : Type 0} (none : A) (xs : List A) (x : Option ℕ) (i : ℕ) �
 row_at-some none xs x i e = ap (λ y. row_at none xs y) e
 
 -- it stands in its table, and is the first that passes
-pub row_found : {A : Type 0} (p : A → Bool) (none : A) (xs : List A) → is_some (first_by p xs) ≡ true →
-    (place_of (first_by p xs) < length xs) × (row_at none xs (first_by p xs) ≡ get_or xs (place_of (first_by p xs)) none) × (first p xs ≡ Some (row_at none xs (first_by p xs)))
+pub row_found : {A : Type 0} (p : A → Bool) (none : A) (xs : List A) → is_some (position p xs) ≡ true →
+    (place_of (position p xs) < length xs) × (row_at none xs (position p xs) ≡ get_or xs (place_of (position p xs)) none) × (find p xs ≡ Some (row_at none xs (position p xs)))
 row_found p none xs e =
-    let at = some_place (first_by p xs) e in
-    let f = found p none xs (place_of (first_by p xs)) at in
-    let r = row_at-some none xs (first_by p xs) (place_of (first_by p xs)) at in
+    let at = some_place (position p xs) e in
+    let f = found p none xs (place_of (position p xs)) at in
+    let r = row_at-some none xs (position p xs) (place_of (position p xs)) at in
     (f.0, r, cc)
 
 -- ---- each row

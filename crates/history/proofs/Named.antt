@@ -1,40 +1,33 @@
 -- Rows that bear names, no name twice, and what is told under the names: changed in place, or with one row more.
-use Rattle.std.proofs.Common.{◌≡◌, ℕ, zero, suc, ◌+◌, ◌<◌, ◌≤◌, Bool, true, false, cond, not, List, [], ◌∷◌, ◌++◌, length, get_or, set, is_some, Some, None, Option, sym, refl, ap, ◌∙◌, subst, ⊎_elim, arith}
+use Rattle.std.proofs.Common.{◌≡◌, ℕ, ◌<◌, ◌≤◌, Bool, true, false, cond, not, List, [], ◌∷◌, ◌++◌, length, get_or, set, is_some, Some, None, Option, sym, refl, ap, ◌∙◌, subst, ⊎_elim, arith}
 use Rattle.std.proofs.lemmas.Slice.Eq.{bytes_eq-Decides}
 use Rattle.std.proofs.lemmas.List.{length_push, length-set, get_or_append_left, get_or_push, get_or-set_same, get_or-set_other}
 use Rattle.std.proofs.lemmas.Bool.{cases_lt, cases_eq, cond-true}
+use Rattle.std.proofs.lemmas.List.Folds.{position_or_len-set, position_or_len_push}
+use Rattle.std.proofs.lemmas.List.Sums.{prefix_len-le-length}
+use Rattle.std.proofs.lemmas.Bool.Decides.{nat_tests}
+use Rattle.std.specs.List.{position}
 use Rattle.std.specs.Str.{bytes_eq}
-use Rattle.table.specs.First.{first_from, first_by}
-use Rattle.history.proofs.Sums.{found}
+use Rattle.history.proofs.Sums.{place_found, found}
 use Rattle.history.proofs.KeepsRows.{set_leaves}
 
 -- ---- a row changed in place
 -- is found where it was
-first_set : {A : Type 0} (p : A → Bool) (f : A → A) → ((a : A) → p (f a) ≡ p a) → (d : A) (xs : List A) (j k : ℕ) →
-    first_from p j (set xs k (f (get_or xs k d))) ≡ first_from p j xs
-first_set p f h d [] j k = refl
-first_set p f h d (x ∷ xs) j zero = ap (λ t. cond t (Some j) (first_from p (j + 1) xs)) (h x)
-first_set p f h d (x ∷ xs) j (suc k) = ap (λ r. cond (p x) (Some j) r) (first_set p f h d xs (j + 1) k)
+first_set : {A : Type 0} (p : A → Bool) (f : A → A) → ((a : A) → p (f a) ≡ p a) → (d : A) (xs : List A) (k : ℕ) →
+    position p (set xs k (f (get_or xs k d))) ≡ position p xs
+first_set p f h d xs k = rw (position_or_len-set p xs k (f (get_or xs k d)) d (h (get_or xs k d)), length-set xs k (f (get_or xs k d)))
 
 -- ---- one row more
-some_step : {A : Type 0} (p : A → Bool) (xs ys : List A) (j i : ℕ) (t : Bool) → (first_from p (j + 1) xs ≡ Some i → first_from p (j + 1) ys ≡ Some i) →
-    cond t (Some j) (first_from p (j + 1) xs) ≡ Some i → cond t (Some j) (first_from p (j + 1) ys) ≡ Some i
-some_step p xs ys j i true h e = e
-some_step p xs ys j i false h e = h e
+first_before : {A : Type 0} (p : A → Bool) (xs : List A) (y : A) (i : ℕ) → position p xs ≡ Some i → position p (xs ++ y ∷ []) ≡ Some i
+first_before p xs y i e = let at = place_found p xs i e in let l = length_push xs y in let q = position_or_len_push p xs y in grind (arith, nat_tests)
 
-first_before : {A : Type 0} (p : A → Bool) (xs ys : List A) (j i : ℕ) → first_from p j xs ≡ Some i → first_from p j (xs ++ ys) ≡ Some i
-first_before p [] ys j i e = absurd (let z : ◌≡◌ {A = ℕ} 0 1 = cc in omega arith)
-first_before p (x ∷ xs) ys j i e = some_step p xs (xs ++ ys) j i (p x) (first_before p xs ys (j + 1) i) e
-
-none_step : {A : Type 0} (p : A → Bool) (xs ys : List A) (j n : ℕ) (t : Bool) → (first_from p (j + 1) xs ≡ None → first_from p (j + 1) ys ≡ Some n) →
-    cond t (Some j) (first_from p (j + 1) xs) ≡ None → cond t (Some j) (first_from p (j + 1) ys) ≡ Some n
-none_step p xs ys j n true h e = absurd (let z : ◌≡◌ {A = ℕ} 0 1 = cc in omega arith)
-none_step p xs ys j n false h e = h e
-
-first_after : {A : Type 0} (p : A → Bool) (xs : List A) (y : A) (j n : ℕ) → p y ≡ true → n ≡ j + length xs → first_from p j xs ≡ None →
-    first_from p j (xs ++ y ∷ []) ≡ Some n
-first_after p [] y j n e l q = cond-true (p y) (Some j) None e ∙ ap Some (omega arith)
-first_after p (x ∷ xs) y j n e l q = none_step p xs (xs ++ y ∷ []) j n (p x) (first_after p xs y (j + 1) n e (omega arith)) q
+first_after : {A : Type 0} (p : A → Bool) (xs : List A) (y : A) (n : ℕ) → p y ≡ true → n ≡ length xs → position p xs ≡ None →
+    position p (xs ++ y ∷ []) ≡ Some n
+first_after p xs y n t e none =
+    let l = length_push xs y in
+    let q = position_or_len_push p xs y in
+    let few = prefix_len-le-length (λ x. not (p x)) xs in
+    grind (arith, nat_tests)
 
 pub not_some : (x : Option ℕ) → not (is_some x) ≡ true → x ≡ None
 not_some None e = refl
@@ -52,7 +45,7 @@ bears name key a = bytes_eq (name a) key
 
 -- each row is the first that bears its name
 abbrev pub Apart : {A : Type 0} → (A → List ℕ) → A → List A → Type 0
-Apart name d xs = (i : ℕ) → i < length xs → first_by (bears name (name (get_or xs i d))) xs ≡ Some i
+Apart name d xs = (i : ℕ) → i < length xs → position (bears name (name (get_or xs i d))) xs ≡ Some i
 
 -- what is told under the names is what stands in the rows
 abbrev pub Tells : {A X : Type 0} → (A → List ℕ) → (A → X) → A → (List ℕ → X) → List A → Type 0
@@ -67,22 +60,22 @@ module _ {A : Type 0} (name : A → List ℕ) (d : A) where
   pub apart_set : (f : A → A) → ((a : A) → name (f a) ≡ name a) → (xs : List A) (k : ℕ) → Apart name d xs → Apart name d (set xs k (f (get_or xs k d)))
   apart_set f h xs k apart i l =
       let same = set_leaves name d xs k (f (get_or xs k d)) (h (get_or xs k d)) i in
-      subst (λ (key : List ℕ). first_by (bears name key) (set xs k (f (get_or xs k d))) ≡ Some i) (sym same)
-      (first_set (bears name (name (get_or xs i d))) f (λ a. ap (λ x. bytes_eq x (name (get_or xs i d))) (h a)) d xs 0 k ∙ apart i (omega (arith, length-set xs k (f (get_or xs k d)))))
+      subst (λ (key : List ℕ). position (bears name key) (set xs k (f (get_or xs k d))) ≡ Some i) (sym same)
+      (first_set (bears name (name (get_or xs i d))) f (λ a. ap (λ x. bytes_eq x (name (get_or xs i d))) (h a)) d xs k ∙ apart i (omega (arith, length-set xs k (f (get_or xs k d)))))
 
-  pub apart_push : (xs : List A) (y : A) → Apart name d xs → first_by (bears name (name y)) xs ≡ None → Apart name d (xs ++ y ∷ [])
+  pub apart_push : (xs : List A) (y : A) → Apart name d xs → position (bears name (name y)) xs ≡ None → Apart name d (xs ++ y ∷ [])
   apart_push xs y apart new i l =
       ⊎_elim
-      (λ (low : i < length xs). subst (λ a. first_by (bears name (name a)) (xs ++ y ∷ []) ≡ Some i) (sym (get_or_append_left xs (y ∷ []) d i low)) (first_before (bears name (name (get_or xs i d))) xs (y ∷ []) 0 i (apart i low)))
+      (λ (low : i < length xs). subst (λ a. position (bears name (name a)) (xs ++ y ∷ []) ≡ Some i) (sym (get_or_append_left xs (y ∷ []) d i low)) (first_before (bears name (name (get_or xs i d))) xs y i (apart i low)))
       (λ (up : length xs ≤ i). let e : length xs ≡ i = omega (arith, length_push xs y) in
-      subst (λ a. first_by (bears name (name a)) (xs ++ y ∷ []) ≡ Some i) (sym (get_or_push xs y d i e)) (first_after (bears name (name y)) xs y 0 i (bytes_same (name y) (name y) refl) (omega arith) new))
+      subst (λ a. position (bears name (name a)) (xs ++ y ∷ []) ≡ Some i) (sym (get_or_push xs y d i e)) (first_after (bears name (name y)) xs y i (bytes_same (name y) (name y) refl) (omega arith) new))
       (cases_lt i (length xs))
 
   -- a row that is found under a key bears it, and is the only one
-  only : (xs : List A) (key : List ℕ) (k i : ℕ) → Apart name d xs → first_by (bears name key) xs ≡ Some k → i < length xs → key ≡ name (get_or xs i d) → i ≡ k
+  only : (xs : List A) (key : List ℕ) (k i : ℕ) → Apart name d xs → position (bears name key) xs ≡ Some k → i < length xs → key ≡ name (get_or xs i d) → i ≡ k
   only xs key k i apart f l e =
       let g = apart i l in
-      let h : first_by (bears name key) xs ≡ Some i = subst (λ x. first_by (bears name x) xs ≡ Some i) (sym e) g in
+      let h : position (bears name key) xs ≡ Some i = subst (λ x. position (bears name x) xs ≡ Some i) (sym e) g in
       cc
 
   module _ {X : Type 0} (v : A → X) (look : List ℕ → X) where
@@ -94,7 +87,7 @@ module _ {A : Type 0} (name : A → List ℕ) (d : A) where
 
     -- what a change makes of the row found under a key is what is told last under that key
     pub tells_set : (f : A → A) (x : X) → ((a : A) → name (f a) ≡ name a) → ((a : A) → v (f a) ≡ x) → (xs : List A) (key : List ℕ) (k : ℕ) →
-        Apart name d xs → first_by (bears name key) xs ≡ Some k → Tells name v d look xs → Tells name v d (λ n. cond (bytes_eq key n) x (look n)) (set xs k (f (get_or xs k d)))
+        Apart name d xs → position (bears name key) xs ≡ Some k → Tells name v d look xs → Tells name v d (λ n. cond (bytes_eq key n) x (look n)) (set xs k (f (get_or xs k d)))
     tells_set f x h g xs key k apart q t i l =
         let len = length-set xs k (f (get_or xs k d)) in
         let low : i < length xs = omega arith in
@@ -110,13 +103,13 @@ module _ {A : Type 0} (name : A → List ℕ) (d : A) where
         (cases_eq i k))
 
     -- and so of one row more, under a new key
-    pub tells_push : (x : X) (xs : List A) (y : A) (key : List ℕ) → name y ≡ key → v y ≡ x → Apart name d xs → first_by (bears name key) xs ≡ None →
+    pub tells_push : (x : X) (xs : List A) (y : A) (key : List ℕ) → name y ≡ key → v y ≡ x → Apart name d xs → position (bears name key) xs ≡ None →
         Tells name v d look xs →
         Tells name v d (λ n. cond (bytes_eq key n) x (look n)) (xs ++ y ∷ [])
     tells_push x xs y key h g apart new t i l =
         ⊎_elim
         (λ (low : i < length xs).
-        let ne : key ≡ name (get_or xs i d) → ⊥ = λ e. (let a = subst (λ n. first_by (bears name n) xs ≡ Some i) (sym e) (apart i low) in let z : ◌≡◌ {A = ℕ} 0 1 = cc in omega arith) in
+        let ne : key ≡ name (get_or xs i d) → ⊥ = λ e. (let a = subst (λ n. position (bears name n) xs ≡ Some i) (sym e) (apart i low) in let z : ◌≡◌ {A = ℕ} 0 1 = cc in omega arith) in
         subst (λ a. cond (bytes_eq key (name a)) x (look (name a)) ≡ v a) (sym (get_or_append_left xs (y ∷ []) d i low))
         (apart_name (bytes_eq key (name (get_or xs i d))) (λ e. ne (same_bytes key (name (get_or xs i d)) e)) x (look (name (get_or xs i d))) _ (t i low)))
         (λ (up : length xs ≤ i). let e : length xs ≡ i = omega (arith, length_push xs y) in

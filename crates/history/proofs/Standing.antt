@@ -2,7 +2,7 @@
 use Rattle.std.proofs.Common.{◌≡◌, ℕ, ◌*◌, ◌<◌, ◌≤◌, true, List, length, get_or, is_some, Some, sym, ap, ◌∙◌, subst, ap₂}
 use Rattle.std.proofs.ByRecursion.{All-get_or}
 use Rattle.std.proofs.lemmas.Bool.{eqb-true}
-use Rattle.std.specs.List.{AllByRecursion}
+use Rattle.std.specs.List.{AllByRecursion, find}
 use Rattle.entry.specs.declared.types.Side.{Side}
 use Rattle.entry.specs.declared.types.Terms.{Terms}
 use Rattle.books.specs.declared.rows.Lots.{Lots}
@@ -17,7 +17,7 @@ use Rattle.books.specs.Effects.{fees_of, taxes_of, premium_in, premium_out}
 use Rattle.books.specs.Sound.{Sound, Each}
 use Rattle.history.specs.Histories.{Event, Listing, Placed, Fill, terms_of, listing_of, product_of, terms_for, listing_for, placed_as, fees_in, taxes_in, premium, measure}
 use Rattle.history.proofs.Tested.{some_place}
-use Rattle.history.proofs.Sums.{first, found}
+use Rattle.history.proofs.Sums.{found}
 use Rattle.history.proofs.KeepsRows.{row_found}
 use Rattle.history.proofs.KeepsHeld.{closed_held}
 use Rattle.history.proofs.Filling.{Closes}
@@ -25,10 +25,10 @@ use Rattle.history.proofs.Markets.{contract_name}
 use Rattle.history.proofs.Agreement.{MarketsAgree, OrdersAgree, placed_in}
 
 module _ (b : Books) (n : ℕ) (known : is_some (order_place b n) ≡ true) where
-  stands : (place_of (order_place b n) < length b.orders) × (order_by b n ≡ get_or b.orders (place_of (order_place b n)) no_order) × (first (λ o. numbered n o.of) b.orders ≡ Some (order_by b n))
+  stands : (place_of (order_place b n) < length b.orders) × (order_by b n ≡ get_or b.orders (place_of (order_place b n)) no_order) × (find (λ o. numbered n o.of) b.orders ≡ Some (order_by b n))
   stands = row_found (λ o. numbered n o.of) no_order b.orders known
 
-  pub order_first : first (λ o. numbered n o.of) b.orders ≡ Some (order_by b n)
+  pub order_first : find (λ o. numbered n o.of) b.orders ≡ Some (order_by b n)
   order_first = stands.2
 
   -- what holds of every standing order

@@ -1,9 +1,11 @@
 -- Sums over lots, and over places.
-use Rattle.std.proofs.Common.{◌≡◌, ℕ, zero, suc, ◌+◌, ◌-◌, ◌*◌, ◌<◌, ◌≤◌, min, Bool, true, false, cond, eqb, List, [], ◌∷◌, ◌++◌, length, get_or, Some, None, Option, sym, refl, ap, subst, ⊎_elim, mul-le-mul_left, arith}
+use Rattle.std.proofs.Common.{◌≡◌, ℕ, zero, suc, ◌+◌, ◌-◌, ◌*◌, ◌<◌, ◌≤◌, min, Bool, true, false, cond, eqb, List, [], ◌∷◌, ◌++◌, length, get_or, Some, sym, refl, ap, ◌∙◌, subst, ⊎_elim, mul-le-mul_left, arith}
 use Rattle.std.proofs.lemmas.Bool.Decides.{nat_tests}
 use Rattle.std.proofs.lemmas.Bool.{cases_lt, cases_eq}
-use Rattle.std.specs.List.{AllByRecursion}
-use Rattle.table.specs.First.{first_from, first_by}
+use Rattle.std.proofs.lemmas.List.Quantifiers.{position-Some}
+use Rattle.std.proofs.lemmas.List.Folds.{find_at}
+use Rattle.std.proofs.lemmas.Option.{slice_get-get_or}
+use Rattle.std.specs.List.{AllByRecursion, find, position, position_or_len, slice_get}
 use Rattle.books.specs.declared.rows.Lots.{Lots}
 use Rattle.books.specs.Lots.{weigh, lots_of, all_lots, put, left, part, sum_to}
 
@@ -75,41 +77,18 @@ weigh-le u v [] f = omega arith
 weigh-le u v (x ∷ xs) f = omega (arith, weigh-le u v xs f.1, mul-le-mul_left x.count f.0)
 
 -- ---- the first of a kind
--- itself, where first_by gives its place
-abbrev pub first : {A : Type 0} → (A → Bool) → List A → Option A
-first p [] = None
-first p (x ∷ xs) = cond (p x) (Some x) (first p xs)
-
--- found between the places j and j + n, as what stands there
-abbrev pub FoundAt : {A : Type 0} → (A → Bool) → A → List A → ℕ → ℕ → Type 0
-FoundAt p d xs j i = (j ≤ i) × (i < j + length xs) × (first p xs ≡ Some (get_or xs (i - j) d)) × (p (get_or xs (i - j) d) ≡ true)
-
-found_step : {A : Type 0} (p : A → Bool) (d x : A) (xs : List A) (j i : ℕ) (t : Bool) → p x ≡ t →
-    (first_from p (j + 1) xs ≡ Some i → FoundAt p d xs (j + 1) i) → cond t (Some j) (first_from p (j + 1) xs) ≡ Some i →
-    (j ≤ i) × (i < j + length (x ∷ xs)) × (cond t (Some x) (first p xs) ≡ Some (get_or (x ∷ xs) (i - j) d)) × (p (get_or (x ∷ xs) (i - j) d) ≡ true)
-found_step p d x xs j i true q rest f =
-    let same : j ≡ i = cc in
-    let none : i - j ≡ 0 = omega arith in
-    (omega arith, omega arith, rw none refl, rw none q)
-found_step p d x xs j i false q rest f =
-    let r = rest f in
-    let more : i - j ≡ suc (i - (j + 1)) = omega arith in
-    (omega arith, omega arith, rw more r.2, rw more r.3)
-
-found_from : {A : Type 0} (p : A → Bool) (d : A) (xs : List A) (j i : ℕ) → first_from p j xs ≡ Some i → FoundAt p d xs j i
-found_from p d [] j i e = absurd (let z : ◌≡◌ {A = ℕ} 0 1 = cc in omega arith)
-found_from p d (x ∷ xs) j i e = found_step p d x xs j i (p x) refl (found_from p d xs (j + 1) i) e
+pub place_found : {A : Type 0} (p : A → Bool) (xs : List A) (i : ℕ) → position p xs ≡ Some i → (position_or_len p xs ≡ i) × (i < length xs)
+place_found p xs i e = (grind (arith, nat_tests), grind (arith, nat_tests))
 
 -- what was found stands in the list, passes, and is the first that does
-pub found : {A : Type 0} (p : A → Bool) (d : A) (xs : List A) (i : ℕ) → first_by p xs ≡ Some i →
-    (i < length xs) × (first p xs ≡ Some (get_or xs i d)) × (p (get_or xs i d) ≡ true)
+pub found : {A : Type 0} (p : A → Bool) (d : A) (xs : List A) (i : ℕ) → position p xs ≡ Some i →
+    (i < length xs) × (find p xs ≡ Some (get_or xs i d)) × (p (get_or xs i d) ≡ true)
 found p d xs i e =
-    let f = found_from p d xs 0 i e in
-    let z : i - 0 ≡ i = omega arith in
-    (omega arith, rw z at f.2, rw z at f.3)
+    let at = position-Some p xs i d e in
+    (at.0, find_at p xs ∙ ap (slice_get xs) (place_found p xs i e).0 ∙ slice_get-get_or xs i d at.0, at.1)
 
 -- what was taken of the first of a kind, where it has so many lots
-pub weigh-first : {A : Type 0} (u : A → ℕ) (p : A → Bool) (k : ℕ) (xs : List (Lots A)) (o : Lots A) → first (λ x. p x.of) xs ≡ Some o →
+pub weigh-first : {A : Type 0} (u : A → ℕ) (p : A → Bool) (k : ℕ) (xs : List (Lots A)) (o : Lots A) → find (λ x. p x.of) xs ≡ Some o →
     k ≤ o.count → weigh u (part p k xs) ≡ k * u o.of
 weigh-first u p k [] o e h = grind arith
 weigh-first u p k (x ∷ xs) o e h =

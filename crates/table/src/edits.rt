@@ -1,58 +1,54 @@
 // How a table is changed.
-ghost use Rattle.std.specs.Prelude.{◌≡◌, [], length, nat_lt, slice_set};
+ghost use Rattle.std.specs.Prelude.{◌≡◌, ◌<◌, ◌↔◌, [], ◌∷◌, ◌++◌, length, IsOk, OnOk, OnErr, slice_get, slice_set};
 ghost use Rattle.std.specs.List.{remove};
-ghost use Rattle.table.specs.Items.{items, pushed};
 
+use crate::full::Full;
 use crate::table::Table;
+use std::mem;
 
 impl<T: Copy, const N: usize> Table<T, N> {
-    // Adds a row behind the last item, and answers whether there was room; where there was none nothing changes.
-    pub fn push(&mut self, row: T) -> bool
-        ensures room { result ≡ nat_lt (length (items self.old)) N }
-        ensures after { items self.new ≡ pushed N (items self.old) row }
+    // Adds a row behind the last item; where there is no room nothing changes.
+    pub fn push(&mut self, row: T) -> Result<(), Full>
+        ensures room { IsOk result ↔ (length self.old < N) }
+        ensures ok { OnOk result (self.new ≡ self.old ++ row ∷ []) }
+        ensures err { OnErr result (self.new ≡ self.old) }
     {
-        if self.len < N {
-            self.rows[self.len] = row;
-            self.len += 1;
-            true
-        } else {
-            false
+        if self.len == N {
+            return Err(Full);
         }
+        self.rows[self.len] = row;
+        self.len += 1;
+        Ok(())
     }
 
-    // Puts a row in the place of an item, and answers whether there was one; past the last nothing changes.
-    pub fn set(&mut self, place: usize, row: T) -> bool
-        ensures there { result ≡ nat_lt place (length (items self.old)) }
-        ensures after { items self.new ≡ slice_set (items self.old) place row }
+    // Puts a row in the place of an item, and hands that item out; past the last nothing changes.
+    pub fn set(&mut self, place: usize, row: T) -> Option<T>
+        ensures was { result ≡ slice_get self.old place }
+        ensures after { self.new ≡ slice_set self.old place row }
     {
-        if place < self.len {
-            self.rows[place] = row;
-            true
-        } else {
-            false
+        if place >= self.len {
+            return None;
         }
+        Some(mem::replace(&mut self.rows[place], row))
     }
 
-    // Takes an item out, and answers whether there was one; past the last nothing changes. The items behind it keep their order.
-    pub fn remove(&mut self, place: usize) -> bool
-        ensures there { result ≡ nat_lt place (length (items self.old)) }
-        ensures after { items self.new ≡ remove (items self.old) place }
+    // Takes an item out, and hands it out; past the last nothing changes. The items behind it keep their order.
+    pub fn remove(&mut self, place: usize) -> Option<T>
+        ensures was { result ≡ slice_get self.old place }
+        ensures after { self.new ≡ remove self.old place }
     {
-        if place < self.len {
-            let last = self.len - 1;
-            for k in place..last {
-                self.rows[k] = self.rows[k + 1];
-            }
-            self.len = last;
-            true
-        } else {
-            false
+        if place >= self.len {
+            return None;
         }
+        let was = self.rows[place];
+        self.rows.copy_within(place + 1..self.len, place);
+        self.len -= 1;
+        Some(was)
     }
 
     // Takes every item out.
     pub fn clear(&mut self)
-        ensures { items self.new ≡ [] }
+        ensures { self.new ≡ [] }
     {
         self.len = 0;
     }

@@ -1,6 +1,6 @@
 // Rows that are found by a key.
 ghost use Rattle.std.specs.Prelude.{◌≡◌, Bool};
-ghost use Rattle.table.specs.First.{first_by};
+ghost use Rattle.std.specs.List.{position};
 
 // A row that is found by a key of type K.
 pub trait Keyed<K> {
@@ -13,12 +13,7 @@ pub trait Keyed<K> {
 
 // The place of the first row with an equal key, or None where there is none.
 pub fn first<K: Copy, T: Keyed<K>>(rows: &[T], key: K) -> Option<usize>
-    ensures { result ≡ first_by (λ row. T.keyed row key) rows.now }
+    ensures { result ≡ position (λ row. T.keyed row key) rows.now }
 {
-    for (i, row) in rows.iter().enumerate() {
-        if row.has_key(key) {
-            return Some(i);
-        }
-    }
-    None
+    rows.iter().position(|row| row.has_key(key))
 }

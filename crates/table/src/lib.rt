@@ -2,11 +2,13 @@
 #![tactic(auto)]
 
 mod edits;
+mod full;
 mod keyed;
 mod reads;
 mod table;
 #[cfg(test)]
 mod tests;
 
+pub use full::Full;
 pub use keyed::{Keyed, first};
 pub use table::Table;

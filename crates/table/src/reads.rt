@@ -1,13 +1,12 @@
 // How a table is made and read.
-ghost use Rattle.std.specs.Prelude.{◌≡◌, ◌<◌, [], length, Some, slice_index_or};
-ghost use Rattle.table.specs.Items.{items, item_at};
+ghost use Rattle.std.specs.Prelude.{◌≡◌, ◌<◌, ◌≤◌, [], length, Some, slice_get, slice_index_or};
 
 use crate::table::Table;
 
 impl<T: Copy, const N: usize> Table<T, N> {
     // A table with no items. The blank fills the places that hold no row.
     pub fn new(blank: T) -> Table<T, N>
-        ensures { items result ≡ [] }
+        ensures { result ≡ [] }
     {
         Table {
             rows: [blank; N],
@@ -17,33 +16,31 @@ impl<T: Copy, const N: usize> Table<T, N> {
 
     // How many items there are.
     pub fn len(&self) -> usize
-        ensures { result ≡ length (items self.now) }
+        ensures count { result ≡ length self.now }
+        ensures fits { result ≤ N }
     {
         self.len
     }
 
     // The item at a place, counted from 0, or None past the last.
     pub fn get(&self, place: usize) -> Option<T>
-        ensures item { result ≡ item_at (items self.now) place }
-        ensures there { place < length (items self.now) → (d : T) → result ≡ Some (slice_index_or (items self.now) place d) }
+        ensures item { result ≡ slice_get self.now place }
+        ensures there { place < length self.now → (d : T) → result ≡ Some (slice_index_or self.now place d) }
     {
-        if place < self.len {
-            Some(self.rows[place])
-        } else {
-            None
-        }
+        self.as_slice().get(place).copied()
     }
 
     // The items as a slice.
     pub fn as_slice(&self) -> &[T]
-        ensures { result.now ≡ items self.now }
+        ensures items { result.now ≡ self.now }
+        ensures fits { length result.now ≤ N }
     {
         &self.rows[..self.len]
     }
 
-    // A second table with equal items.
+    // A second table with equal items. No derived Copy: it asks for the places that hold no row too, and a clause sees the items alone.
     pub fn copied(&self) -> Table<T, N>
-        ensures { items result ≡ items self.now }
+        ensures { result ≡ self.now }
     {
         Table {
             rows: self.rows,

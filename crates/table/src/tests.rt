@@ -1,7 +1,7 @@
 // A full table, and two rows with one key.
 ghost use Rattle.std.specs.Prelude.{◌==◌};
 
-use crate::{Keyed, Table, first};
+use crate::{Full, Keyed, Table, first};
 
 #[derive(Clone, Copy)]
 struct Row {
@@ -20,10 +20,22 @@ impl Keyed<u8> for Row {
 #[test]
 fn a_full_table_stays_as_it_is(rt: HostRuntime) {
     let mut table = Table::<u8, 2>::new(0);
-    assert!(rt; table.push(5));
-    assert!(rt; table.push(6));
-    assert!(rt; !table.push(7));
+    assert_eq!(rt; table.push(5), Ok(()));
+    assert_eq!(rt; table.push(6), Ok(()));
+    assert_eq!(rt; table.push(7), Err(Full));
     assert_eq!(rt; table.as_slice(), [5, 6].as_slice());
+}
+
+#[test]
+fn a_change_hands_out_the_row_that_was_there(rt: HostRuntime) {
+    let mut table = Table::<u8, 2>::new(0);
+    assert_eq!(rt; table.push(5), Ok(()));
+    assert_eq!(rt; table.push(6), Ok(()));
+    assert_eq!(rt; table.set(0, 8), Some(5));
+    assert_eq!(rt; table.set(2, 9), None);
+    assert_eq!(rt; table.remove(0), Some(8));
+    assert_eq!(rt; table.remove(1), None);
+    assert_eq!(rt; table.as_slice(), [6].as_slice());
 }
 
 #[test]

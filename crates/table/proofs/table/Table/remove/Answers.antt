@@ -1,23 +1,14 @@
-use Rattle.std.proofs.Common.{sym, arith}
-use Rattle.std.proofs.lemmas.Bool.{le-ltb}
-use Rattle.table.specs.Items.{items}
-use Rattle.table.proofs.ItemsLaws.{length-items}
-use Rattle.table.proofs.ShiftLaws.{removed_past, shifting_none, shifting_more}
+use Rattle.std.proofs.Common.{◌≡◌, ℕ, ◌+◌, ◌-◌, ◌<◌, ◌≤◌, List, length, take, arith, rules}
+use Rattle.std.specs.List.{remove, copy_within}
+use Rattle.std.proofs.lemmas.List.{same_lists, places}
+use Rattle.std.proofs.lemmas.Bool.{cases_lt}
 use Rattle.table.proofs.table.Table.remove.Goals as goal
 
-pub loop-k-init : goal.loop-k-init
-loop-k-init g c = let t = c.args.self.now in shifting_none t.rows c.args.place t.len (omega (arith, t.few, t.long)) (omega arith)
+-- of the first n those behind the i-th are copied one place down
+take-copy_within : {T : Type 0} (xs : List T) (i n : ℕ) → i < n → n ≤ length xs → take (n - 1) (copy_within xs (i + 1) n i) ≡ remove (take n xs) i
+take-copy_within xs i n lt few = same_lists _ _ (search (rules, places)) (λ k d h. grind (arith, places, cases_lt k i))
 
-pub loop-k-preserved : goal.loop-k-preserved
-loop-k-preserved g c =
-    let t = c.args.self.now in
-    shifting_more t.rows c.args.place t.len c.loop-k.self.rows c.loop-k.k _ c.loop-k.invariant (omega (arith, t.few, t.long)) (omega arith) (omega arith)
-
-pub returns-else-place-self : goal.returns-else-place-self
-returns-else-place-self g c =
-    let t = c.args.self.now in
-    let n = length-items t in
-    record {
-      there = sym (le-ltb _ _ (omega arith));
-      after = sym (removed_past (items t) c.args.place (omega arith));
-    }
+pub returns-clause-after : goal.returns-clause-after
+returns-clause-after g c =
+    let t = c.self.inside in
+    rw (c.copy_within.ensures.after, ← c.self.view_is) (take-copy_within t.rows c.args.place t.len (omega arith) (omega (arith, c.self.invariant)))

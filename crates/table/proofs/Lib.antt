@@ -1,3 +1,0 @@
-pub mod FirstLaws
-pub mod ItemsLaws
-pub mod ShiftLaws
