@@ -5,41 +5,33 @@ ghost use Rattle.books.specs.Numbers.{phase_number, call_number};
 // A day runs through them in this order and begins again.
 #[derive(Clone, Copy, Debug, PartialEq, Drop)]
 pub enum Phase {
-    Before,
-    Regular,
-    Settled,
-    AfterHours,
+    Before = 0,
+    Regular = 1,
+    Settled = 2,
+    AfterHours = 3,
 }
 
-impl Phase {
-    pub fn number(&self) -> u8
-        ensures { result ≡ phase_number self.now }
-    {
-        match self {
-            Phase::Before => 0,
-            Phase::Regular => 1,
-            Phase::Settled => 2,
-            Phase::AfterHours => 3,
-        }
+impl From<Phase> for u8 {
+    ghost from_gives = { λ phase number. number ≡ phase_number phase };
+
+    fn from(phase: Phase) -> u8 {
+        phase as u8
     }
 }
 
 // Whether more margin has been called for, and whether its deadline has passed.
+// No call is a case and no Option: each case has a number.
 #[derive(Clone, Copy, Debug, PartialEq, Drop)]
 pub enum Call {
-    NoCall,
-    Standing,
-    Overdue,
+    NoCall = 0,
+    Standing = 1,
+    Overdue = 2,
 }
 
-impl Call {
-    pub fn number(&self) -> u8
-        ensures { result ≡ call_number self.now }
-    {
-        match self {
-            Call::NoCall => 0,
-            Call::Standing => 1,
-            Call::Overdue => 2,
-        }
+impl From<Call> for u8 {
+    ghost from_gives = { λ call number. number ≡ call_number call };
+
+    fn from(call: Call) -> u8 {
+        call as u8
     }
 }

@@ -16,11 +16,12 @@ pub enum Refusal {
     SmallBuffer,
 }
 
-impl Refusal {
-    pub fn number(&self) -> u8
-        ensures { result ≡ refusal_number self.now }
-    {
-        match self {
+// A match and no `as u8`: one case has a value.
+impl From<Refusal> for u8 {
+    ghost from_gives = { λ refusal number. number ≡ refusal_number refusal };
+
+    fn from(refusal: Refusal) -> u8 {
+        match refusal {
             Refusal::WrongPhase => 3,
             Refusal::Unknown => 4,
             Refusal::InUse => 5,
@@ -33,7 +34,9 @@ impl Refusal {
             Refusal::SmallBuffer => 12,
         }
     }
+}
 
+impl Refusal {
     // The missing dollars.
     pub fn short(&self) -> u64
         ensures { result ≡ refusal_short self.now }

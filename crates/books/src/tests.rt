@@ -13,11 +13,11 @@ fn each_case_has_its_number(rt: HostRuntime) {
         (Phase::AfterHours, 3),
     ];
     for (phase, number) in &phases {
-        assert_eq!(rt; phase.number(), *number);
+        assert_eq!(rt; u8::from(*phase), *number);
     }
     let calls = [(Call::NoCall, 0), (Call::Standing, 1), (Call::Overdue, 2)];
     for (call, number) in &calls {
-        assert_eq!(rt; call.number(), *number);
+        assert_eq!(rt; u8::from(*call), *number);
     }
     let notices = [
         (Notice::Quiet, 0),
@@ -26,7 +26,7 @@ fn each_case_has_its_number(rt: HostRuntime) {
         (Notice::CallOverdue, 3),
     ];
     for (notice, number) in &notices {
-        assert_eq!(rt; notice.number(), *number);
+        assert_eq!(rt; u8::from(*notice), *number);
     }
     let dues = [
         (Due::NotDue, 0),
@@ -34,7 +34,7 @@ fn each_case_has_its_number(rt: HostRuntime) {
         (Due::CallMissed, 2),
     ];
     for (due, number) in &dues {
-        assert_eq!(rt; due.number(), *number);
+        assert_eq!(rt; u8::from(*due), *number);
     }
     let refusals = [
         (Refusal::WrongPhase, 3, 0),
@@ -49,7 +49,7 @@ fn each_case_has_its_number(rt: HostRuntime) {
         (Refusal::SmallBuffer, 12, 0),
     ];
     for (refusal, number, short) in &refusals {
-        assert_eq!(rt; refusal.number(), *number);
+        assert_eq!(rt; u8::from(*refusal), *number);
         assert_eq!(rt; refusal.short(), *short);
     }
 }
