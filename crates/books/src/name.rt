@@ -1,6 +1,5 @@
 // The name of a product or a contract, kept in the row.
-ghost use Rattle.std.specs.Prelude.{◌≡◌, ◌-◌, ◌≤◌, ◌++◌, length, replicate};
-ghost use Rattle.books.specs.Limits.{longest_name};
+ghost use Rattle.std.specs.Prelude.{◌≡◌};
 ghost use Rattle.books.specs.Names.{name_if_fit, name_bytes, is_same_name};
 
 use entry::is_name;
@@ -9,20 +8,11 @@ use entry::is_name;
 const LONGEST: usize = 8;
 
 // 1 to 8 bytes, and zeros behind them.
+// No `impl Model`, by which a clause would see the bytes: tried, and a row with a name is then moved, not copied, when it is passed on.
 #[derive(Clone, Copy, Drop)]
 pub struct Name {
     bytes: [u8; LONGEST],
     len: usize,
-}
-
-// At most 8 bytes, and zeros behind them.
-fn padded(bytes: &[u8]) -> [u8; LONGEST]
-    requires { length bytes.now ≤ longest_name }
-    ensures { result ≡ bytes.now ++ replicate (longest_name - length bytes.now) 0 }
-{
-    let mut all = [0; LONGEST];
-    all[..bytes.len()].copy_from_slice(bytes);
-    all
 }
 
 impl Name {
@@ -33,8 +23,10 @@ impl Name {
         if !is_name(bytes) {
             return None;
         }
+        let mut padded = [0; LONGEST];
+        padded[..bytes.len()].copy_from_slice(bytes);
         Some(Name {
-            bytes: padded(bytes),
+            bytes: padded,
             len: bytes.len(),
         })
     }
@@ -43,11 +35,7 @@ impl Name {
     pub fn as_bytes(&self) -> &[u8]
         ensures { result.now ≡ name_bytes self.now }
     {
-        if self.len < LONGEST {
-            &self.bytes[..self.len]
-        } else {
-            &self.bytes
-        }
+        &self.bytes[..self.len.min(LONGEST)]
     }
 
     // Whether these are its bytes.

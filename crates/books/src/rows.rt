@@ -1,4 +1,5 @@
-// The rows of an account's tables. A row refers to another by its place; no row that is referred to ever moves.
+// The rows of an account's tables.
+// A row refers to another by its place: memory is fixed, and rows are plain values. No row that is referred to ever moves.
 ghost use Rattle.books.specs.Books.{numbered};
 ghost use Rattle.books.specs.Names.{is_same_name};
 
@@ -63,7 +64,7 @@ impl<'a> Keyed<&'a [u8]> for Product {
     }
 }
 
-// So is a contract.
+// So is a contract. One impl for every row with a name is refused: the trait is another crate's.
 impl<'a> Keyed<&'a [u8]> for Contract {
     ghost keyed = { λ row name. is_same_name name.now row.name };
 
