@@ -3,7 +3,6 @@
 
 mod front;
 mod lines;
-mod store;
 mod texts;
 
 pub use front::Front;

@@ -1,15 +1,14 @@
 -- A desk that goes through a block prints what the lines of the input are answered, wherever the input is cut.
 use Rattle.std.proofs.Common.{◌≡◌, ℕ, List, [], ◌∷◌, ◌++◌, take, Some, None, vec_items, sym, ap, ◌∙◌, append_assoc, append-nil, arith}
-use Rattle.console.specs.Fronts.{kept}
 use Rattle.console.specs.Streams.{line_front, GoesOn}
 use Rattle.proofread.specs.declared.desk.Desk.{Desk}
 use Rattle.proofread.specs.Proof.{proof_text, next, answers, printed, Answered}
 
 module _ (before at after : Desk) (block left begun filled : List ℕ) (sofar : Answered before at block left begun) where
   -- the line ended, was answered, and the next begins
-  pub line_answered : (behind : List ℕ) → GoesOn 201 (kept at.line) left filled (Some behind)
+  pub line_answered : (behind : List ℕ) → GoesOn 201 at.line left filled (Some behind)
       → ((all : List ℕ) → filled ≡ take 201 all → vec_items after.out ≡ vec_items at.out ++ proof_text (next at.number) all)
-      → after.number ≡ next at.number → kept after.line ≡ [] → Answered before after block behind begun
+      → after.number ≡ next at.number → after.line ≡ [] → Answered before after block behind begun
   line_answered behind goes answered counted cleared =
       let line = sofar.begun_now ++ line_front left in
       record {
@@ -24,8 +23,8 @@ module _ (before at after : Desk) (block left begun filled : List ℕ) (sofar : 
       }
 
   -- the block ended before the line
-  pub block_answered : GoesOn 201 (kept at.line) left filled None
-      → vec_items after.out ≡ vec_items at.out → after.number ≡ at.number → kept after.line ≡ filled → Answered before after block [] begun
+  pub block_answered : GoesOn 201 at.line left filled None
+      → vec_items after.out ≡ vec_items at.out → after.number ≡ at.number → after.line ≡ filled → Answered before after block [] begun
   block_answered goes same_out same_number holds = record {
     begun_now = sofar.begun_now ++ line_front left;
     line = holds ∙ goes.line sofar.begun_now sofar.line;

@@ -1,6 +1,5 @@
 -- What a list of lines is answered where no account stands behind it, however it comes in.
 use Rattle.std.specs.Prelude.{◌≡◌, ℕ, ◌+◌, ◌-◌, ◌^◌, min, List, [], ◌∷◌, ◌++◌, take, Ok, Err, vec_items, Result}
-use Rattle.console.specs.Fronts.{kept}
 use Rattle.console.specs.Streams.{lines_from}
 use Rattle.console.specs.Texts.{done_text, decline_text}
 use Rattle.entry.specs.declared.fault.Decline.{Decline}
@@ -29,11 +28,15 @@ answers number (line ∷ lines) = proof_text (next number) line ++ answers (next
 abbrev pub printed : ℕ → List ℕ → List ℕ → List ℕ
 printed number begun input = answers number (lines_from begun input)
 
+-- so of every line of which these bytes are the front, its first 201 bytes
+abbrev pub EachLineOf : List ℕ → (List ℕ → Type 0) → Type 0
+EachLineOf front So = (all : List ℕ) → front ≡ take 201 all → So all
+
 -- a desk went through a block up to what is left of it: what it has answered, and what is still to be printed of the input,
 -- are together what they were, whatever comes after the block
 pub record Answered (before after : Desk) (block left begun : List ℕ) : Type 0 where
   pub begun_now : List ℕ
-  pub line : kept after.line ≡ take 201 begun_now
+  pub line : after.line ≡ take 201 begun_now
   pub same : (more : List ℕ) → vec_items before.out ++ printed before.number begun (block ++ more) ≡ vec_items after.out ++ printed after.number begun_now (left ++ more)
 
 -- what was held out is written, and nothing else has changed
