@@ -64,6 +64,7 @@ impl Desk {
     }
 
     // Answers a last line that has no line feed.
+    #[tactic(auto, using(crate::proofs::Desks::last_printed, crate::proofs::Desks::none_printed))]
     pub fn finish(&mut self) -> Result<(), AllocError>
         ensures { OnOk result (EachLineOf self.old.line (λ begun. self.new.out.items ≡ self.old.out.items ++ printed self.old.number begun [])) }
     {

@@ -1,13 +1,9 @@
-use Rattle.std.proofs.Common.{refl}
 use Rattle.proofread.proofs.Desks.{line_answered, block_answered}
 use Rattle.proofread.proofs.desk.Desk.answer_block.Goals as goal
 
 pub loop-behind-preserved : goal.loop-behind-preserved
 loop-behind-preserved c = λ begun is.
-    line_answered c.args.self.now c.loop-behind.self c.answer.new.self c.args.block.now c.loop-behind.rest.now begun c.fill.new.self (c.loop-behind.invariant begun is)
-    c.in-Some.behind.now c.in-Some.ensures.same_lines c.in_ok-answer.ensures.out c.answer.ensures.number c.answer.ensures.line
+    line_answered _ _ _ _ begun _ (c.loop-behind.invariant begun is) _ _ c.in-Some.ensures.same_lines c.in_ok-answer.ensures.out c.answer.ensures.number c.answer.ensures.line
 
 pub returns : goal.returns
-returns c = λ begun is.
-    block_answered c.args.self.now c.loop-behind.self _ c.args.block.now c.loop-behind.rest.now begun c.fill.new.self (c.loop-behind.invariant begun is)
-    c.in_default.ensures.same_lines refl refl refl
+returns c = λ begun is. block_answered _ _ _ _ begun _ (c.loop-behind.invariant begun is) c.in_default.ensures.same_lines
