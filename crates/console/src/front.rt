@@ -1,5 +1,5 @@
 // The first 201 bytes of what is put into it: of a line, enough to tell that it is too long.
-ghost use Rattle.std.specs.Prelude.{◌≡◌, ◌≤◌, [], ◌++◌, length, take};
+ghost use Rattle.std.specs.Prelude.{◌≡◌, ℕ, ◌≤◌, List, [], ◌++◌, length, take};
 
 use arrayvec::ArrayVec;
 use std::io::Write;
@@ -15,8 +15,6 @@ pub struct Front {
 
 // Clauses see the bytes that are held.
 impl Model for Front {
-    ghost use Rattle.std.specs.Prelude.{ℕ, ◌≤◌, List, length};
-
     ghost Value = { List ℕ };
 
     ghost view = { λ f. f.held.items };

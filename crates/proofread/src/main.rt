@@ -9,7 +9,7 @@ mod desk;
 use desk::Desk;
 use std::io::{Read, Write};
 
-// Bytes read at a time.
+// Bytes read at a time: no line is held whole, so memory does not grow with the input.
 const BLOCK: usize = 65536;
 
 // Writes the answers that are held; the desk goes on where it was.
