@@ -1,4 +1,5 @@
-// The texts of answers.
+// The texts of answers. No `Display`: what std writes is promised only where the write succeeds, and an answer into fixed memory
+// cannot fail.
 ghost use Rattle.std.specs.Prelude.{◌≡◌, ◌++◌, take};
 ghost use Rattle.console.specs.Texts.{field, done_text, decline_text};
 

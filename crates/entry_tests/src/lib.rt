@@ -24,7 +24,7 @@ mod tests {
         match read_line(b"deposit amount=83O00") {
             Err(fault) => {
                 assert_eq!(rt;
-                    fault.decline(),
+                    Decline::from(fault),
                     Decline {
                         number: 1,
                         layer: 1,

@@ -3,7 +3,7 @@ ghost use Rattle.std.specs.Prelude.{◌≡◌, [], ◌++◌, OnOk};
 ghost use Rattle.proofread.specs.Proof.{proof_text, next, printed, EachLineOf, Answered};
 
 use console::Front;
-use entry::read_line;
+use entry::{Decline, read_line};
 use std::alloc::{AllocError, Global};
 
 // The answer to a line, told by its first 201 bytes.
@@ -12,7 +12,7 @@ fn answer_to(text: &mut Front, number: u64, line: &[u8])
 {
     match read_line(line) {
         Ok(_) => text.answer_done(number, 0),
-        Err(fault) => text.answer_declined(number, fault.decline()),
+        Err(fault) => text.answer_declined(number, Decline::from(fault)),
     }
 }
 
