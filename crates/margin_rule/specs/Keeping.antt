@@ -1,17 +1,23 @@
--- By which lemmas Spread and Raise keep the laws, Raise over any rule that keeps them. Assumes nothing.
-use Rattle.std.proofs.Common.{arith, mul-add, add-mul, mul-le-mul_left, mul-le-mul_right}
+-- Outright, Spread and Raise keep the laws, Raise over any rule that keeps them. Assumes nothing.
+use Rattle.std.proofs.Common.{arith, rules, mul-add, add-mul, mul-le-mul_left, mul-le-mul_right}
 use Rattle.std.specs.Prelude.{ℕ, ◌+◌, ◌*◌, ◌≤◌}
 use Rattle.std.proofs.lemmas.Bool.{leb-true, cond_both}
 use Rattle.margin_rule.specs.Meanings.{Meaning}
 use Rattle.margin_rule.specs.Laws.{Laws, Rise, furthest_reach}
-use Rattle.margin_rule.specs.Rules.{raised, times, percent_of}
+use Rattle.margin_rule.specs.Rules.{outright, spread, raised, times, percent_of}
 
 -- so many lots at a figure, where the lots grow by at most one
-pub product_rises : (r n m : ℕ) → n ≤ m → m ≤ n + 1 → Rise (r * n) (r * m) r
+product_rises : (r n m : ℕ) → n ≤ m → m ≤ n + 1 → Rise (r * n) (r * m) r
 product_rises r n m h k = record {
   least = mul-le-mul_left r h;
   within = omega (arith, mul-le-mul_left r k, mul-add r n 1);
 }
+
+pub outright_keeps : Laws outright
+outright_keeps = search (rules, mul-le-mul_left)
+
+pub spread_keeps : Laws spread
+spread_keeps = search (rules, mul-le-mul_left, product_rises)
 
 -- a percentage of 100 or more, rounded up, keeps order and lowers nothing
 percent_grows : (p n m : ℕ) → n ≤ m → percent_of p n ≤ percent_of p m

@@ -1,6 +1,6 @@
 // Every lot needs the published figure.
 ghost use Rattle.margin_rule.specs.Rules.{outright};
-ghost use Rattle.std.proofs.Common.{mul-le-mul_left, rules};
+ghost use Rattle.margin_rule.specs.Keeping.{outright_keeps};
 
 use crate::rule::{MarginRule, nearest_figure, nearest_lots};
 
@@ -10,7 +10,7 @@ pub struct Outright;
 impl MarginRule for Outright {
     ghost meaning = { λ _. outright };
 
-    ghost keeps = { Prim.search (rules, mul-le-mul_left) };
+    ghost keeps = { λ x. outright_keeps };
 
     fn need(&self, long: u32, short: u32, figure: u32) -> u64 {
         let lots = nearest_lots(long) + nearest_lots(short);

@@ -1,7 +1,6 @@
 // Long and short lots offset each other: the lots of the larger side need the published figure.
 ghost use Rattle.margin_rule.specs.Rules.{spread};
-ghost use Rattle.std.proofs.Common.{mul-le-mul_left, rules};
-ghost use Rattle.margin_rule.specs.Keeping.{product_rises};
+ghost use Rattle.margin_rule.specs.Keeping.{spread_keeps};
 
 use crate::rule::{MarginRule, nearest_figure, nearest_lots};
 
@@ -12,7 +11,7 @@ pub struct Spread;
 impl MarginRule for Spread {
     ghost meaning = { λ _. spread };
 
-    ghost keeps = { Prim.search (rules, mul-le-mul_left, product_rises) };
+    ghost keeps = { λ x. spread_keeps };
 
     fn need(&self, long: u32, short: u32, figure: u32) -> u64 {
         let lots = nearest_lots(long).max(nearest_lots(short));
