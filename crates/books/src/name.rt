@@ -9,6 +9,7 @@ const LONGEST: usize = 8;
 
 // 1 to 8 bytes, and zeros behind them.
 // No `impl Model`, by which a clause would see the bytes: tried, and a row with a name is then moved, not copied, when it is passed on.
+// No `ArrayVec` in place of the buffer and the length: rows are `Copy`, and it is not.
 #[derive(Clone, Copy, Drop)]
 pub struct Name {
     bytes: [u8; LONGEST],
@@ -16,7 +17,7 @@ pub struct Name {
 }
 
 impl Name {
-    // A name of 1 to 8 capitals or digits; other bytes are none.
+    // A name of 1 to 8 capitals or digits; other bytes are none. No `TryFrom`: its error would say no more than None.
     pub fn new(bytes: &[u8]) -> Option<Name>
         ensures { result ≡ name_if_fit bytes.now }
     {
@@ -31,14 +32,14 @@ impl Name {
         })
     }
 
-    // Its bytes, without the zeros.
+    // Its bytes, without the zeros. The length is never above LONGEST, which the type cannot say (a definition may keep any bytes).
     pub fn as_bytes(&self) -> &[u8]
         ensures { result.now ≡ name_bytes self.now }
     {
         &self.bytes[..self.len.min(LONGEST)]
     }
 
-    // Whether these are its bytes.
+    // Whether these are its bytes. No `==`: its two sides would be of two types.
     pub(crate) fn is(&self, bytes: &[u8]) -> bool
         ensures { result ≡ is_same_name bytes.now self.now }
     {

@@ -24,6 +24,7 @@ fn write_out(rt: &HostRuntime, desk: &mut Desk) -> anyhow::Result<()>
 fn proofread(rt: &HostRuntime) -> anyhow::Result<()> {
     let mut block = vec![in rt.alloc(); 0u8; BLOCK]?;
     let mut desk = Desk::new(rt.alloc());
+    // no `loop`: every loop is proved to end, and no input has so many blocks
     for _ in 0..u64::MAX {
         let n = rt.stdin().read(&mut block)?;
         if n == 0 {
