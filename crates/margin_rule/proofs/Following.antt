@@ -10,6 +10,9 @@ climbs f each most step n m zero e h = grind arith
 climbs f each most step n m (suc k) e h = grind (arith, climbs f each most step n (n + k) k refl (omega arith), step (n + k) (omega arith), add-mul k 1 each)
 
 -- a question at the nearest ends is inside the ranges
+lots_in_range : (n : ℕ) → Lots (nearest_lots n)
+lots_in_range n = omega arith
+
 figure_in_range : (r : ℕ) → Figure (nearest_figure r)
 figure_in_range r = search rules
 
@@ -20,6 +23,9 @@ module _ (rule : Meaning) (laws : Laws rule) where
       let more_long = climbs (λ n. rule.need n s r) (rule.lot r) most_lots (λ n h. laws.one_more_long n s r h (omega arith) f) l m j e hm in
       let more_short = climbs (λ n. rule.need m n r) (rule.lot r) most_lots (λ n h. laws.one_more_short m n r hm h f) s t k d ht in
       record { least = omega arith; within = omega (arith, add-mul j k (rule.lot r)) }
+
+  lots_grow : (l s m t r : ℕ) → l ≤ m → s ≤ t → Lots m → Lots t → Figure r → rule.need l s r ≤ rule.need m t r
+  lots_grow l s m t r hl hs hm ht f = omega (arith, rises l s m t (m - l) (t - s) r (omega arith) (omega arith) hm ht f)
 
   lot_bounded : (r : ℕ) → Figure r → rule.lot r ≤ highest_lot
   lot_bounded r f = omega (arith, laws.lot_within_reach r f, laws.reach_most)
@@ -33,7 +39,7 @@ module _ (rule : Meaning) (laws : Laws rule) where
 
   pub inside : Bounds rule
   inside = record {
-    grows = λ l s r m t q hl hs hr hm ht f g. omega (arith, rises l s m t (m - l) (t - s) r (omega arith) (omega arith) hm ht f, laws.higher_figure m t r q hm ht f g hr);
+    grows = λ l s r m t q hl hs hr hm ht f g. omega (arith, lots_grow l s m t r hl hs hm ht f, laws.higher_figure m t r q hm ht f g hr);
     more_lots = λ l s j k r hl hs f. (rises l s _ _ j k r refl refl hl hs f).within;
     lot_covers = lot_covers;
     lot_is_some = λ r f. omega (arith, lot_covers r f);
@@ -52,13 +58,13 @@ module _ (rule : Meaning) (laws : Laws rule) where
   pub everywhere : BoundsEverywhere rule
   everywhere = record {
     none = λ r. laws.none (nearest_figure r) (figure_in_range r);
-    grows = λ l s r m t q hl hs hr. inside.grows _ _ _ _ _ _ (omega arith) (omega arith) (omega arith) (omega arith) (omega arith) (figure_in_range r) (figure_in_range q);
+    grows = λ l s r m t q hl hs hr. inside.grows _ _ _ _ _ _ (omega arith) (omega arith) (omega arith) (lots_in_range m) (lots_in_range t) (figure_in_range r) (figure_in_range q);
     more_lots = λ l s j k r. more_anywhere l s j k (nearest_figure r) (figure_in_range r);
-    covers = λ l s r. laws.covers (nearest_lots l) (nearest_lots s) (nearest_figure r) (omega arith) (omega arith) (figure_in_range r);
+    covers = λ l s r. laws.covers (nearest_lots l) (nearest_lots s) (nearest_figure r) (lots_in_range l) (lots_in_range s) (figure_in_range r);
     lot_covers = λ r. lot_covers (nearest_figure r) (figure_in_range r);
     lot_is_some = λ r. inside.lot_is_some (nearest_figure r) (figure_in_range r);
     lot_bounded = λ r. lot_bounded (nearest_figure r) (figure_in_range r);
-    need_bounded = λ l s r. need_bounded (nearest_lots l) (nearest_lots s) (nearest_figure r) (omega arith) (omega arith) (figure_in_range r);
+    need_bounded = λ l s r. need_bounded (nearest_lots l) (nearest_lots s) (nearest_figure r) (lots_in_range l) (lots_in_range s) (figure_in_range r);
   }
 
   -- any answer is within the bounds
