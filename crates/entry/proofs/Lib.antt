@@ -3,3 +3,4 @@ pub mod Values
 pub mod Reading
 pub mod FieldKinds
 pub mod WholeLine
+pub mod Places

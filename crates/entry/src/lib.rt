@@ -50,6 +50,7 @@ fn read_rest(word: Word, rest: Rest<'_>) -> Result<Request<'_>, LineFault>
 }
 
 // What a line says, or its first fault. The first 201 bytes of a line tell it.
+#[tactic(auto, using(crate::proofs::WholeLine::told_whole))]
 pub fn read_line(line: &[u8]) -> Result<Request<'_>, LineFault>
     ensures value { map_ok asked result ≡ line_of line.now }
     ensures told { map_err decline_of (map_ok asked result) ≡ answer_to line.now }

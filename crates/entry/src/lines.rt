@@ -53,6 +53,7 @@ pub(crate) fn product_line(mut rest: Rest<'_>) -> Result<Request<'_>, LineFault>
     }))
 }
 
+#[tactic(auto, unfolding(crate::specs::Fields::field_at))]
 pub(crate) fn contract_line(mut rest: Rest<'_>) -> Result<Request<'_>, LineFault>
     ensures { map_ok asked result ≡ rest_at ContractWord rest.entry.line.now rest.entry.at }
 {
@@ -132,6 +133,7 @@ pub(crate) fn cancel_line(mut rest: Rest<'_>) -> Result<Request<'_>, LineFault>
     rest.says(Request::Enter(Entry::Cancel { order }))
 }
 
+#[tactic(auto, unfolding(crate::specs::Fields::field_at))]
 pub(crate) fn order_line(mut rest: Rest<'_>) -> Result<Request<'_>, LineFault>
     ensures { map_ok asked result ≡ rest_at OrderWord rest.entry.line.now rest.entry.at }
 {

@@ -23,6 +23,7 @@ pub(crate) enum Word {
     Report,
 }
 
+#[tactic(auto, using(crate::proofs::Places::same_at_places))]
 pub(crate) fn read_word(bytes: &[u8]) -> Result<Word, LineFault>
     ensures { result ≡ word_in words bytes.now }
 {

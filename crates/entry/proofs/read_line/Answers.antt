@@ -7,9 +7,6 @@ use Rattle.entry.proofs.read_line.Goals as goal
 pub returns-in_err-rest-clause-front : goal.returns-in_err-rest-clause-front
 returns-in_err-rest-clause-front c = told_front c.args.line.now _ (search rules)
 
-pub returns-in_err-word-clause-whole : goal.returns-in_err-word-clause-whole
-returns-in_err-word-clause-whole c = told_whole c.args.line.now _ (search rules)
-
 pub returns-in_err-word-clause-front : goal.returns-in_err-word-clause-front
 returns-in_err-word-clause-front c = told_front c.args.line.now _ (search rules)
 

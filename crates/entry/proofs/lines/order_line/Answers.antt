@@ -1,5 +1,4 @@
-use Rattle.std.proofs.Common.{rules, arith}
-use Rattle.std.proofs.lemmas.Grind.{common_steps}
+use Rattle.std.proofs.Common.{rules}
 use Rattle.entry.specs.Fields.{field_at}
 use Rattle.entry.proofs.lines.order_line.Goals as goal
 
@@ -10,7 +9,3 @@ returns-in_err-lots c = search rules
 pub returns-in_err-price : goal.returns-in_err-price
 unfolding field_at
 returns-in_err-price c = search rules
-
-pub returns : goal.returns
-unfolding field_at
-returns c = grind (arith, common_steps)
