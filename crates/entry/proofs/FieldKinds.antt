@@ -1,7 +1,8 @@
 -- Every kind of field is read exactly where it is written: figures, names, letters, and the eight figures of a product's terms.
-use Rattle.std.proofs.Common.{◌≡◌, ℕ, ◌^◌, ◌<◌, Bool, true, false, cond, ◌&&◌, eqb, ltb, leb, List, [], ◌∷◌, ◌++◌, length, get_or, drop, Some, None, Ok, Err, codes, decimal, Option, Result, sym, refl, ap, ◌∙◌, subst, arith}
+use Rattle.std.proofs.Common.{◌≡◌, ℕ, ◌^◌, ◌<◌, true, ◌&&◌, eqb, ltb, leb, List, [], ◌∷◌, ◌++◌, length, get_or, drop, Some, None, Ok, Err, codes, decimal, Option, Result, sym, refl, ap, ◌∙◌, subst, arith}
 use Rattle.std.proofs.lemmas.List.{nil_from_length}
 use Rattle.std.proofs.lemmas.Bool.{cond-true, eqb-true, and_parts}
+use Rattle.std.proofs.lemmas.Bool.Decides.{nat_tests}
 use Rattle.std.specs.List.{list_all}
 use Rattle.figure.specs.Figure.{is_digit, figure_of}
 use Rattle.figure.specs.declared.FigureFault.{FigureFault}
@@ -26,7 +27,7 @@ use Rattle.entry.proofs.Reading.{ReadsValue, Reads, reads_keyed, AllRead, fields
 -- figures
 placed_ok : (column n : ℕ) (r : Result ℕ FigureFault) → carried (placed column r) ≡ Ok n → r ≡ Ok n
 placed_ok column n (Ok m) told = cc
-placed_ok column n (Err f) told = let z : ◌≡◌ {A = ℕ} 0 1 = cc in absurd (omega arith)
+placed_ok column n (Err f) told = cc
 
 reads_figure_value : ReadsValue figure_in (λ n. n < 10 ^ 15) decimal
 reads_figure_value = record {
@@ -62,16 +63,12 @@ record Spells {A : Type 0} (meant : ℕ → Option A) (byte : A → ℕ) : Type 
   blank : meant 32 ≡ None
 
 case_letter : {A : Type 0} (byte : A → ℕ) (xs : List A) (b : ℕ) (x : A) → case_of byte xs b ≡ Some x → b ≡ byte x
-case_letter byte [] b x told = let z : ◌≡◌ {A = ℕ} 0 1 = cc in absurd (omega arith)
-case_letter byte (y ∷ ys) b x told = go (eqb b (byte y)) (eqb-true b (byte y)) (case_letter byte ys b x) told
-  where
-    go : (t : Bool) → (t ≡ true → b ≡ byte y) → (case_of byte ys b ≡ Some x → b ≡ byte x) → cond t (Some y) (case_of byte ys b) ≡ Some x → b ≡ byte x
-    go true is later h = let same : y ≡ x = cc in is refl ∙ ap byte same
-    go false is later h = later h
+case_letter byte [] b x told = cc
+case_letter byte (y ∷ ys) b x told = grind (arith, nat_tests, case_letter byte ys b x)
 
 form_some : {A : Type 0} (column : ℕ) (o : Option A) (x : A) → or_form column o ≡ Ok x → o ≡ Some x
 form_some column (Some y) x told = cc
-form_some column None x told = let z : ◌≡◌ {A = ℕ} 0 1 = cc in absurd (omega arith)
+form_some column None x told = cc
 
 single : (bs : List ℕ) → length bs ≡ 1 → bs ≡ get_or bs 0 0 ∷ []
 single [] h = absurd (omega arith)

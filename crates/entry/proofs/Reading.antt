@@ -15,7 +15,7 @@ pub record Through {A B : Type 0} (r : Result A LineFault) (f : A → Result B L
 
 pub through : {A B : Type 0} (r : Result A LineFault) (f : A → Result B LineFault) (b : B) → and_then r f ≡ Ok b → Through r f b
 through (Ok x) f b told = record { value = x; first = refl; rest = told }
-through (Err e) f b told = let z : ◌≡◌ {A = ℕ} 0 1 = cc in absurd (omega arith)
+through (Err e) f b told = cc
 
 -- a reader of values that answers v exactly of what shows v
 pub record ReadsValue {A : Type 0} (reader : ℕ → List ℕ → Result A LineFault) (Valid : A → Type 0) (shown : A → List ℕ) : Type 0 where
