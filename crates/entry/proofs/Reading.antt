@@ -1,9 +1,9 @@
 -- A field is read exactly where it is written, and so are fields one after another.
-use Rattle.std.proofs.Common.{◌≡◌, ℕ, ◌+◌, List, [], ◌∷◌, ◌++◌, length, drop, Ok, Err, Result, sym, refl, ap, ◌∙◌, subst, append_assoc, add-zero, arith}
+use Rattle.std.proofs.Common.{◌≡◌, ℕ, ◌+◌, List, [], ◌∷◌, ◌++◌, length, drop, Ok, Err, Result, refl, ap, ◌∙◌, append_assoc, add-zero, arith}
 use Rattle.std.proofs.lemmas.List.{length-append, drop-drop}
 use Rattle.figure.specs.Figure.{and_then}
 use Rattle.entry.specs.declared.fault.LineFault.{LineFault}
-use Rattle.entry.specs.Fields.{word, value_at, key_at, field_at}
+use Rattle.entry.specs.Fields.{value_at, key_at, field_at}
 use Rattle.entry.specs.Lines.{Field, keyed, Values, Valids, texts, fields_at}
 use Rattle.entry.proofs.Values.{Stops, Unbroken, value_stands, value_is, behind, key_stands, key_is}
 
@@ -36,35 +36,21 @@ module _ {A : Type 0} (reader : ℕ → List ℕ → Result A LineFault) (Valid 
       let k = through (key_at key line at) (λ start. and_then (reader (start + 1) (value_at line start)) (λ value. Ok (value, start + length (value_at line start)))) (v, end) told in
       let r = through (reader (k.value + 1) (value_at line k.value)) (λ value. Ok (value, k.value + length (value_at line k.value))) (v, end) k.rest in
       let pair : ◌≡◌ {A = A × ℕ} (r.value, k.value + length (value_at line k.value)) (v, end) = cc r.rest in
-      let s = reads.sound (k.value + 1) (value_at line k.value) r.value r.first in
-      let value : value_at line k.value ≡ shown v = s.1 ∙ ap (λ x. shown x.0) pair in
-      let place : drop (length (value_at line k.value)) (drop k.value line) ≡ drop end line = drop-drop (length (value_at line k.value)) k.value line ∙ ap (λ x. drop x.1 line) pair in (
-        subst (λ x. Valid x.0) pair s.0,
-        key_stands key line at k.value k.first
-            ∙ ap (keyed key) (value_stands (drop k.value line) ∙ ap (λ x. x ++ drop (length (value_at line k.value)) (drop k.value line)) value ∙ ap (λ x. shown v ++ x) place)
-            ∙ ap (λ x. 32 ∷ x) (sym (append_assoc key (shown v) (drop end line))),
+      let s = reads.sound (k.value + 1) (value_at line k.value) v (r.first ∙ ap (λ x. Ok x.0) pair) in (
+        s.0,
+        cc (s.1, key_stands key line at k.value k.first, value_stands (drop k.value line), drop-drop (length (value_at line k.value)) k.value line, append_assoc key (shown v) (drop end line), ap (λ x. x.1) pair),
       )
-
-  -- the key stands there, and its value is what shows v
-  value_read :
-      (line : List ℕ) (at : ℕ) (v : A) (start : ℕ) →
-      Valid v → key_at key line at ≡ Ok start → value_at line start ≡ shown v → field_at reader key line at ≡ Ok (v, start + length (shown v))
-  unfolding field_at
-  value_read line at v start valid found value =
-      ap (λ r. and_then r (λ s. and_then (reader (s + 1) (value_at line s)) (λ x. Ok (x, s + length (value_at line s))))) found
-      ∙ ap (λ bs. and_then (reader (start + 1) bs) (λ x. Ok (x, start + length bs))) value
-      ∙ ap (λ r. and_then r (λ x. Ok (x, start + length (shown v)))) (reads.complete (start + 1) v valid)
 
   keyed_complete :
       (line : List ℕ) (at : ℕ) (v : A) (rest : List ℕ) →
       Valid v → drop at line ≡ keyed key (shown v) ++ rest → Stops rest → field_at reader key line at ≡ Ok (v, at + length (keyed key (shown v)))
+  unfolding field_at
   keyed_complete line at v rest valid stands stops =
-      let here : drop at line ≡ keyed key (shown v ++ rest) = stands ∙ ap (λ x. 32 ∷ x) (append_assoc key (shown v) rest) in
-      let place : at + 1 + length key ≡ at + length (32 ∷ key) = omega arith in
-      let after : drop (at + 1 + length key) line ≡ shown v ++ rest = ap (λ p. drop p line) place ∙ behind line (32 ∷ key) (shown v ++ rest) at here in
-      let value : value_at line (at + 1 + length key) ≡ shown v = ap word after ∙ value_is (shown v) rest (reads.unbroken v valid) stops in
+      let here : drop at line ≡ keyed key (shown v ++ rest) = rw append_assoc at stands in
+      let after : drop (at + 1 + length key) line ≡ shown v ++ rest = behind line key (shown v ++ rest) (at + 1) (behind line (32 ∷ []) (key ++ (shown v ++ rest)) at here) in
+      let value : value_at line (at + 1 + length key) ≡ shown v = rw after (value_is (shown v) rest (reads.unbroken v valid) stops) in
       let end : at + 1 + length key + length (shown v) ≡ at + length (keyed key (shown v)) = omega (arith, length-append key (shown v)) in
-      value_read line at v (at + 1 + length key) valid (key_is key line at (shown v ++ rest) here) value ∙ ap (λ n. Ok (v, n)) end
+      rw (key_is key line at (shown v ++ rest) here, value, reads.complete (at + 1 + length key + 1) v valid) (ap (λ n. Ok (v, n)) end)
 
   pub reads_keyed : Reads (record { Value = A; read = field_at reader key; Valid = Valid; text = λ v. keyed key (shown v) })
   reads_keyed = record { sound = keyed_sound; complete = keyed_complete; begins = λ v rest. refl }
@@ -91,20 +77,18 @@ fields_sound (f ∷ fs) reads line at then a told =
       values = (t.value.0, more.values);
       end = more.end;
       valid = (one.0, more.valid);
-      stands = one.1 ∙ ap (λ r. f.text t.value.0 ++ r) more.stands ∙ sym (append_assoc (f.text t.value.0) (texts fs more.values) (drop more.end line));
+      stands = rw (append_assoc, ← more.stands) one.1;
       rest = more.rest;
     }
 
 pub stops_before : (fs : List Field) → AllRead fs → (vs : Values fs) (rest : List ℕ) → Stops rest → Stops (texts fs vs ++ rest)
 stops_before [] reads vs rest stops = stops
-stops_before (f ∷ fs) reads vs rest stops = subst Stops (sym (append_assoc (f.text vs.0) (texts fs vs.1) rest)) (reads.0.begins vs.0 (texts fs vs.1 ++ rest))
+stops_before (f ∷ fs) reads vs rest stops = rw append_assoc (reads.0.begins vs.0 (texts fs vs.1 ++ rest))
 
 pub fields_complete : {A : Type 0} (fs : List Field) → AllRead fs → (line : List ℕ) (at : ℕ) (then : Values fs → ℕ → Result A LineFault) (vs : Values fs) (rest : List ℕ) → Valids fs vs → drop at line ≡ texts fs vs ++ rest → Stops rest → fields_at fs line at then ≡ then vs (at + length (texts fs vs))
-fields_complete [] reads line at then vs rest valid stands stops = ap (then tt) (sym (add-zero at))
+fields_complete [] reads line at then vs rest valid stands stops = rw add-zero
 fields_complete (f ∷ fs) reads line at then vs rest valid stands stops =
-    let left = texts fs vs.1 ++ rest in
-    let here : drop at line ≡ f.text vs.0 ++ left = stands ∙ append_assoc (f.text vs.0) (texts fs vs.1) rest in
+    let here : drop at line ≡ f.text vs.0 ++ (texts fs vs.1 ++ rest) = rw append_assoc at stands in
     let end : at + length (f.text vs.0) + length (texts fs vs.1) ≡ at + length (f.text vs.0 ++ texts fs vs.1) = omega (arith, length-append (f.text vs.0) (texts fs vs.1)) in
-    ap (λ r. and_then r (λ x. fields_at fs line x.1 (λ ws e. then (x.0, ws) e))) (reads.0.complete line at vs.0 left valid.0 here (stops_before fs reads.1 vs.1 rest stops))
-    ∙ fields_complete fs reads.1 line (at + length (f.text vs.0)) (λ ws e. then (vs.0, ws) e) vs.1 rest valid.1 (behind line (f.text vs.0) left at here) stops
-    ∙ ap (then vs) end
+    rw (reads.0.complete line at vs.0 (texts fs vs.1 ++ rest) valid.0 here (stops_before fs reads.1 vs.1 rest stops), ← end)
+    (fields_complete fs reads.1 line (at + length (f.text vs.0)) (λ ws e. then (vs.0, ws) e) vs.1 rest valid.1 (behind line (f.text vs.0) (texts fs vs.1 ++ rest) at here) stops)
