@@ -85,6 +85,6 @@ pub reads_terms : Reads terms
 unfolding terms_at
 reads_terms = record {
   sound = terms_sound;
-  complete = λ line at t rest valid stands stops. fields_complete term_fields terms_read line at (λ vs e. Ok (terms_of vs, e)) (term_values t) rest valid stands stops;
+  complete = λ line at t. fields_complete term_fields terms_read line at (λ vs e. Ok (terms_of vs, e)) (term_values t);
   begins = λ t rest. refl;
 }

@@ -33,8 +33,8 @@ module _ {A : Type 0} (reader : ℕ → List ℕ → Result A LineFault) (Valid 
   keyed_sound : (line : List ℕ) (at : ℕ) (v : A) (end : ℕ) → field_at reader key line at ≡ Ok (v, end) → Valid v × (drop at line ≡ keyed key (shown v) ++ drop end line)
   unfolding field_at
   keyed_sound line at v end told =
-      let k = through (key_at key line at) (λ start. and_then (reader (start + 1) (value_at line start)) (λ value. Ok (value, start + length (value_at line start)))) (v, end) told in
-      let r = through (reader (k.value + 1) (value_at line k.value)) (λ value. Ok (value, k.value + length (value_at line k.value))) (v, end) k.rest in
+      let k = through (key_at key line at) _ (v, end) told in
+      let r = through (reader (k.value + 1) (value_at line k.value)) _ (v, end) k.rest in
       let pair : ◌≡◌ {A = A × ℕ} (r.value, k.value + length (value_at line k.value)) (v, end) = cc r.rest in
       let s = reads.sound (k.value + 1) (value_at line k.value) v (r.first ∙ ap (λ x. Ok x.0) pair) in (
         s.0,
@@ -70,9 +70,9 @@ pub record Gave {A : Type 0} (fs : List Field) (line : List ℕ) (at : ℕ) (the
 pub fields_sound : {A : Type 0} (fs : List Field) → AllRead fs → (line : List ℕ) (at : ℕ) (then : Values fs → ℕ → Result A LineFault) (a : A) → fields_at fs line at then ≡ Ok a → Gave fs line at then a
 fields_sound [] reads line at then a told = record { values = tt; end = at; valid = tt; stands = refl; rest = told }
 fields_sound (f ∷ fs) reads line at then a told =
-    let t = through (f.read line at) (λ x. fields_at fs line x.1 (λ vs end. then (x.0, vs) end)) a told in
+    let t = through (f.read line at) _ a told in
     let one = reads.0.sound line at t.value.0 t.value.1 t.first in
-    let more = fields_sound fs reads.1 line t.value.1 (λ vs end. then (t.value.0, vs) end) a t.rest in
+    let more = fields_sound fs reads.1 line t.value.1 _ a t.rest in
     record {
       values = (t.value.0, more.values);
       end = more.end;
@@ -91,4 +91,4 @@ fields_complete (f ∷ fs) reads line at then vs rest valid stands stops =
     let here : drop at line ≡ f.text vs.0 ++ (texts fs vs.1 ++ rest) = rw append_assoc at stands in
     let end : at + length (f.text vs.0) + length (texts fs vs.1) ≡ at + length (f.text vs.0 ++ texts fs vs.1) = omega (arith, length-append (f.text vs.0) (texts fs vs.1)) in
     rw (reads.0.complete line at vs.0 (texts fs vs.1 ++ rest) valid.0 here (stops_before fs reads.1 vs.1 rest stops), ← end)
-    (fields_complete fs reads.1 line (at + length (f.text vs.0)) (λ ws e. then (vs.0, ws) e) vs.1 rest valid.1 (behind line (f.text vs.0) (texts fs vs.1 ++ rest) at here) stops)
+    (fields_complete fs reads.1 line (at + length (f.text vs.0)) _ vs.1 rest valid.1 (behind line (f.text vs.0) (texts fs vs.1 ++ rest) at here) stops)

@@ -1,12 +1,10 @@
 -- A line is one entry, whole: it is answered exactly as what it writes, and nothing else writes that.
-use Rattle.std.proofs.Common.{◌≡◌, ℕ, ◌+◌, ◌≤◌, Bool, true, ltb, List, [], ◌∷◌, ◌++◌, length, take, drop, Ok, Result, sym, refl, ap, ◌∙◌, subst, inl, inr, append-nil, arith}
+use Rattle.std.proofs.Common.{◌≡◌, ℕ, ◌+◌, ◌≤◌, ltb, List, [], ◌∷◌, ◌++◌, length, take, drop, Ok, Result, sym, refl, ap, ◌∙◌, subst, inl, inr, append-nil, arith}
 use Rattle.std.proofs.lemmas.Slice.Eq.{bytes_eq-Decides}
 use Rattle.std.proofs.lemmas.List.{drop_all, length-drop, length-take-le, take_all}
 use Rattle.std.proofs.lemmas.List.Prefix.{front_rest}
 use Rattle.std.proofs.lemmas.Bool.{ltb-false, le-ltb, cases_lt}
 use Rattle.std.proofs.lemmas.Bool.Decides.{nat_tests}
-use Rattle.std.specs.List.{list_all}
-use Rattle.figure.specs.Figure.{and_then}
 use Rattle.figure.proofs.Bind.{ok_past}
 use Rattle.entry.specs.declared.fault.LineFault.{LineFault}
 use Rattle.entry.specs.declared.fault.LineFault.TheVariants.{Form}
@@ -14,27 +12,13 @@ use Rattle.entry.specs.declared.words.Word.{Word}
 use Rattle.entry.specs.declared.words.Word.TheVariants.{Product, Contract, Announce, Band, Spot, Mark, Deposit, Withdraw, Cancel, Order, Fill, Open, Close, Deadline, Report}
 use Rattle.entry.specs.Entries.{lists_product, lists_contract, announces, sets_band, sets_spot, sets_mark, deposits, withdraws, cancels, orders, fills, opens, closes, ends_deadline, Asked, enters, reports}
 use Rattle.entry.specs.Fields.{value_at, end_at}
-use Rattle.entry.specs.Lines.{Values, Valids, texts, fields_of, word_text, said_by, words, word_in, rest_at, line_of, Written, Writes, Whole}
+use Rattle.entry.specs.Lines.{Values, texts, fields_of, word_text, said_by, words, word_in, line_of, Written, Writes, Whole}
 use Rattle.entry.proofs.FieldKinds.{reads_figure, reads_name, reads_kind, reads_right, reads_side, reads_effect, reads_terms}
 use Rattle.entry.proofs.Reading.{through, AllRead, fields_sound, stops_before, fields_complete}
-use Rattle.entry.proofs.Values.{Stops, unbroken_from_all, value_stands, value_is, behind}
+use Rattle.entry.proofs.Values.{Stops, Unbroken, value_stands, value_is, behind}
 
 fields_read : (w : Word) → AllRead (fields_of w)
-fields_read Product = search (reads_figure, reads_name, reads_kind, reads_terms) depth 12
-fields_read Contract = search (reads_figure, reads_name, reads_right) depth 12
-fields_read Announce = search (reads_name, reads_terms) depth 12
-fields_read Band = search (reads_figure, reads_name) depth 12
-fields_read Spot = search (reads_figure, reads_name) depth 12
-fields_read Mark = search (reads_figure, reads_name) depth 12
-fields_read Deposit = search reads_figure depth 12
-fields_read Withdraw = search reads_figure depth 12
-fields_read Cancel = search reads_figure depth 12
-fields_read Order = search (reads_figure, reads_name, reads_side, reads_effect) depth 12
-fields_read Fill = search reads_figure depth 12
-fields_read Open = tt
-fields_read Close = tt
-fields_read Deadline = tt
-fields_read Report = tt
+fields_read w = grind (arith, reads_figure, reads_name, reads_kind, reads_right, reads_side, reads_effect, reads_terms)
 
 -- the end of the line
 end_sound : (line : List ℕ) (end : ℕ) (u : Unit {0}) → end_at line end ≡ Ok u → drop end line ≡ []
@@ -43,39 +27,12 @@ end_sound line end u told = drop_all end line (grind (arith, nat_tests))
 end_complete : (line : List ℕ) (end : ℕ) → drop end line ≡ [] → end_at line end ≡ Ok tt
 end_complete line end none = grind (arith, nat_tests, length-drop end line)
 
--- the rest of a line is the texts of the word's fields
-record Rest (w : Word) (line : List ℕ) (at : ℕ) (a : Asked) : Type 0 where
-  values : Values (fields_of w)
-  valid : Valids (fields_of w) values
-  stands : drop at line ≡ texts (fields_of w) values
-  says : said_by w values ≡ a
-
-rest_sound : (w : Word) (line : List ℕ) (at : ℕ) (a : Asked) → rest_at w line at ≡ Ok a → Rest w line at a
-rest_sound w line at a told =
-    let gave = fields_sound (fields_of w) (fields_read w) line at (λ vs end. and_then (end_at line end) (λ _. Ok (said_by w vs))) a told in
-    let ended = through (end_at line gave.end) (λ _. Ok (said_by w gave.values)) a gave.rest in
-    record {
-      values = gave.values;
-      valid = gave.valid;
-      stands = simp (end_sound line gave.end ended.value ended.first, append-nil) at gave.stands;
-      says = cc ended.rest;
-    }
-
-rest_complete : (w : Word) (vs : Values (fields_of w)) (line : List ℕ) (at : ℕ) → Valids (fields_of w) vs → drop at line ≡ texts (fields_of w) vs → rest_at w line at ≡ Ok (said_by w vs)
-rest_complete w vs line at valid stands =
-    let here : drop at line ≡ texts (fields_of w) vs ++ [] = rw append-nil stands in
-    fields_complete (fields_of w) (fields_read w) line at (λ ws end. and_then (end_at line end) (λ _. Ok (said_by w ws))) vs [] valid here tt
-    ∙ rw (end_complete line (at + length (texts (fields_of w) vs)) (behind line (texts (fields_of w) vs) [] at here))
-
 -- a word is found by its text, which no blank breaks
 word_sound : (ws : List Word) (bs : List ℕ) (w : Word) → word_in ws bs ≡ Ok w → bs ≡ word_text w
 word_sound [] bs w told = cc
 word_sound (v ∷ ws) bs w told = grind (arith, word_sound ws bs w, bytes_eq-Decides bs (word_text v))
 
-abbrev is_small : ℕ → Bool
-is_small b = ltb 96 b
-
-word_found : (w : Word) → (word_in words (word_text w) ≡ Ok w) × (list_all is_small (word_text w) ≡ true)
+word_found : (w : Word) → (word_in words (word_text w) ≡ Ok w) × Unbroken (word_text w)
 word_found w = grind arith
 
 -- what is asked, as a word and the values of its fields
@@ -125,18 +82,23 @@ row_writes row = ap Writes (sym row.says) ∙ writes_said row.word row.values
 -- a taken line is a word with the texts of its fields
 line_sound : (line : List ℕ) (a : Asked) → line_of line ≡ Ok a → (length line ≤ 200) × Writes a line
 line_sound line a told =
-    let short = ok_past a (Form 201) (ltb 200 (length line)) (and_then (word_in words (value_at line 0)) (λ w. rest_at w line (length (value_at line 0)))) told in
-    let first = through (word_in words (value_at line 0)) (λ w. rest_at w line (length (value_at line 0))) a short.1 in
-    let rest = rest_sound first.value line (length (value_at line 0)) a first.rest in
-    let text : line ≡ word_text first.value ++ texts (fields_of first.value) rest.values = cc (value_stands line, word_sound words (value_at line 0) first.value first.first, rest.stands) in
-    let row : Row a = record { word = first.value; values = rest.values; says = rest.says } in
-    (ltb-false 200 (length line) short.0, subst (λ P. P line) (sym (row_writes row)) (record { valid = rest.valid; text = text }))
+    let short = ok_past a (Form 201) (ltb 200 (length line)) _ told in
+    let first = through (word_in words (value_at line 0)) _ a short.1 in
+    let gave = fields_sound (fields_of first.value) (fields_read first.value) line (length (value_at line 0)) _ a first.rest in
+    let ended = through (end_at line gave.end) _ a gave.rest in
+    let stands = simp (end_sound line gave.end ended.value ended.first, append-nil) at gave.stands in
+    let text : line ≡ word_text first.value ++ texts (fields_of first.value) gave.values = cc (value_stands line, word_sound words (value_at line 0) first.value first.first, stands) in
+    let row : Row a = record { word = first.value; values = gave.values; says = cc ended.rest } in
+    (ltb-false 200 (length line) short.0, subst (λ P. P line) (sym (row_writes row)) (record { valid = gave.valid; text = text }))
 
 line_complete : (w : Word) (vs : Values (fields_of w)) (line : List ℕ) → length line ≤ 200 → Written w vs line → line_of line ≡ Ok (said_by w vs)
 line_complete w vs line short written =
     let stops : Stops (texts (fields_of w) vs) = rw append-nil at (stops_before (fields_of w) (fields_read w) vs [] tt) in
-    let first : value_at line 0 ≡ word_text w = rw written.text (value_is (word_text w) (texts (fields_of w) vs) (unbroken_from_all is_small refl (word_text w) (word_found w).1) stops) in
-    rw (le-ltb 200 (length line) short, first, (word_found w).0) (rest_complete w vs line (length (word_text w)) written.valid (front_rest line (word_text w) (texts (fields_of w) vs) written.text))
+    let first : value_at line 0 ≡ word_text w = rw written.text (value_is (word_text w) (texts (fields_of w) vs) (word_found w).1 stops) in
+    let rest : drop (length (word_text w)) line ≡ texts (fields_of w) vs ++ [] = rw append-nil (front_rest line (word_text w) (texts (fields_of w) vs) written.text) in
+    rw (le-ltb 200 (length line) short, first, (word_found w).0)
+    (fields_complete (fields_of w) (fields_read w) line (length (word_text w)) _ vs [] written.valid rest tt
+    ∙ rw (end_complete line (length (word_text w) + length (texts (fields_of w) vs)) (behind line (texts (fields_of w) vs) [] (length (word_text w)) rest)))
 
 line_whole : (line : List ℕ) → Whole line (line_of line)
 line_whole line = record {
