@@ -55,6 +55,7 @@ module _ {A : Type 0} (reader : ℕ → List ℕ → Result A LineFault) (Valid 
   pub reads_keyed : Reads (record { Value = A; read = field_at reader key; Valid = Valid; text = λ v. keyed key (shown v) })
   reads_keyed = record { sound = keyed_sound; complete = keyed_complete; begins = λ v rest. refl }
 
+-- each field of a list is read where it is written
 abbrev pub AllRead : List Field → Type 0
 AllRead [] = Unit {0}
 AllRead (f ∷ fs) = Reads f × AllRead fs
@@ -67,6 +68,7 @@ pub record Gave {A : Type 0} (fs : List Field) (line : List ℕ) (at : ℕ) (the
   pub stands : drop at line ≡ texts fs values ++ drop end line
   pub rest : then values end ≡ Ok a
 
+-- fields that gave an answer stand there, one behind another
 pub fields_sound : {A : Type 0} (fs : List Field) → AllRead fs → (line : List ℕ) (at : ℕ) (then : Values fs → ℕ → Result A LineFault) (a : A) → fields_at fs line at then ≡ Ok a → Gave fs line at then a
 fields_sound [] reads line at then a told = record { values = tt; end = at; valid = tt; stands = refl; rest = told }
 fields_sound (f ∷ fs) reads line at then a told =
@@ -81,10 +83,12 @@ fields_sound (f ∷ fs) reads line at then a told =
       rest = more.rest;
     }
 
+-- texts of fields stop what stands before them
 pub stops_before : (fs : List Field) → AllRead fs → (vs : Values fs) (rest : List ℕ) → Stops rest → Stops (texts fs vs ++ rest)
 stops_before [] reads vs rest stops = stops
 stops_before (f ∷ fs) reads vs rest stops = rw append_assoc (reads.0.begins vs.0 (texts fs vs.1 ++ rest))
 
+-- and fields that stand there are read
 pub fields_complete : {A : Type 0} (fs : List Field) → AllRead fs → (line : List ℕ) (at : ℕ) (then : Values fs → ℕ → Result A LineFault) (vs : Values fs) (rest : List ℕ) → Valids fs vs → drop at line ≡ texts fs vs ++ rest → Stops rest → fields_at fs line at then ≡ then vs (at + length (texts fs vs))
 fields_complete [] reads line at then vs rest valid stands stops = rw add-zero
 fields_complete (f ∷ fs) reads line at then vs rest valid stands stops =

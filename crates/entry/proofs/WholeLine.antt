@@ -17,6 +17,7 @@ use Rattle.entry.proofs.FieldKinds.{reads_figure, reads_name, reads_kind, reads_
 use Rattle.entry.proofs.Reading.{through, AllRead, fields_sound, stops_before, fields_complete}
 use Rattle.entry.proofs.Values.{Stops, Unbroken, value_stands, value_is, behind}
 
+-- each field of a word is read where it is written
 fields_read : (w : Word) → AllRead (fields_of w)
 fields_read w = grind (arith, reads_figure, reads_name, reads_kind, reads_right, reads_side, reads_effect, reads_terms)
 
@@ -76,10 +77,11 @@ writes_said Close vs = refl
 writes_said Deadline vs = refl
 writes_said Report vs = refl
 
+-- what is asked is written by the word and the values of its row
 row_writes : {a : Asked} (row : Row a) → Writes a ≡ Written row.word row.values
 row_writes row = ap Writes (sym row.says) ∙ writes_said row.word row.values
 
--- a taken line is a word with the texts of its fields
+-- a taken line is the one that writes what was answered: a word with the texts of its fields
 line_sound : (line : List ℕ) (a : Asked) → line_of line ≡ Ok a → (length line ≤ 200) × Writes a line
 line_sound line a told =
     let short = ok_past a (Form 201) (ltb 200 (length line)) _ told in
@@ -91,6 +93,7 @@ line_sound line a told =
     let row : Row a = record { word = first.value; values = gave.values; says = cc ended.rest } in
     (ltb-false 200 (length line) short.0, subst (λ P. P line) (sym (row_writes row)) (record { valid = gave.valid; text = text }))
 
+-- and a line that is a word with the texts of its fields is taken
 line_complete : (w : Word) (vs : Values (fields_of w)) (line : List ℕ) → length line ≤ 200 → Written w vs line → line_of line ≡ Ok (said_by w vs)
 line_complete w vs line short written =
     let stops : Stops (texts (fields_of w) vs) = rw append-nil at (stops_before (fields_of w) (fields_read w) vs [] tt) in
