@@ -32,7 +32,7 @@ impl Name {
         })
     }
 
-    // Its bytes, without the zeros. The length is never above LONGEST, which the type cannot say (a definition may keep any bytes).
+    // Its bytes, without the zeros. `min`, since the type cannot say that the length fits: in `specs/` a name is made of any bytes.
     pub fn as_bytes(&self) -> &[u8]
         ensures { result.now ≡ name_bytes self.now }
     {

@@ -37,7 +37,7 @@ impl From<Refusal> for u8 {
 }
 
 impl Refusal {
-    // The missing dollars.
+    // The missing dollars; 0 where none are missing, and no Option, since an answer prints it.
     pub fn short(&self) -> u64
         ensures { result ≡ refusal_short self.now }
     {

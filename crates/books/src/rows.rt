@@ -7,7 +7,8 @@ use crate::name::Name;
 use entry::{Effect, Kind, Right, Side, Terms};
 use table::Keyed;
 
-// What is listed under one name and margined together. A tick is worth so many dollars a lot.
+// What is listed under one name and margined together. A tick is worth so many dollars a lot. Futures have spot 0, and no Option: it is
+// kept as a line writes it, and another value there is a decline of its own.
 #[derive(Clone, Copy, Drop)]
 pub struct Product {
     pub name: Name,
@@ -17,7 +18,8 @@ pub struct Product {
     pub spot: u32,
 }
 
-// A month of futures or a series of options. Prices are in ticks.
+// A month of futures or a series of options. Prices are in ticks. A month has neither right and strike 0, as a line writes them; floor and
+// ceiling are plain numbers too, as they are keyed in.
 #[derive(Clone, Copy, Drop)]
 pub struct Contract {
     pub name: Name,

@@ -49,6 +49,7 @@ impl Front {
     pub fn put(&mut self, part: &[u8])
         ensures { self.new ≡ take 201 (self.old ++ part.now) }
     {
+        // never an Err: it takes what there is room for
         let _taken = self.held.write(part);
     }
 }

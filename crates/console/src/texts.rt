@@ -1,4 +1,4 @@
-// The texts of answers. No `Display`: what std writes is promised only where the write succeeds, and an answer into fixed memory
+// The texts of answers. No `Display` (tried): what std writes is promised only where the write succeeds, and an answer into fixed memory
 // cannot fail.
 ghost use Rattle.std.specs.Prelude.{◌≡◌, ◌++◌, take};
 ghost use Rattle.console.specs.Texts.{field, done_text, decline_text};
@@ -15,7 +15,7 @@ impl Front {
         self.put(Buffer::new().format(n).as_bytes());
     }
 
-    // The answer to a line that was taken, in place of what was held: the number of its order, or 0.
+    // The answer to a line that was taken, in place of what was held: the number of its order, or 0, which is printed too.
     pub fn answer_done(&mut self, line: u64, order: u64)
         ensures { self.new ≡ done_text line order }
     {

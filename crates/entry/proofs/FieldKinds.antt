@@ -32,14 +32,14 @@ reads_figure = reads_keyed figure_in (λ n. n < 10 ^ 15) decimal (record {
 name_sound : (column : ℕ) (bs v : List ℕ) → name_in column bs ≡ Ok v → (is_name v ≡ true) × (bs ≡ v)
 name_sound column bs v told = grind arith
 
-name_bytes : (bs : List ℕ) → is_name bs ≡ true → list_all is_name_byte bs ≡ true
-name_bytes bs h = grind arith
+name_bytes_lem : (bs : List ℕ) → is_name bs ≡ true → list_all is_name_byte bs ≡ true
+name_bytes_lem bs h = grind arith
 
 pub reads_name : (key : List ℕ) → Reads (name key)
 reads_name = reads_keyed name_in (λ bs. is_name bs ≡ true) (λ bs. bs) (record {
   sound = name_sound;
   complete = λ column v h. rw h;
-  unbroken = λ v h. unbroken_from_all is_name_byte refl v (name_bytes v h);
+  unbroken = λ v h. unbroken_from_all is_name_byte refl v (name_bytes_lem v h);
 })
 
 -- letters: each case has one, and a blank is none

@@ -4,7 +4,8 @@ ghost use Rattle.entry.specs.Letters.{kind_of, right_of, side_of, effect_of};
 
 use crate::types::{Effect, Kind, Right, Side};
 
-// Cases that a letter each stands for. No `TryFrom<char>`: it promises a relation to its answer, and a field is read by a function.
+// Cases that a letter each stands for. No `TryFrom<char>`: a field's definition takes a function (`meant`), and
+// `TryFrom` gives generic code only a relation.
 pub(crate) trait Letter: Sized {
     ghost meant: { ℕ → Option Self };
 

@@ -42,9 +42,9 @@ fn read_rest(word: Word, rest: Rest<'_>) -> Result<Request<'_>, LineFault>
         Word::Cancel => cancel_line(rest),
         Word::Order => order_line(rest),
         Word::Fill => fill_line(rest),
-        Word::Open => rest.says(Request::Enter(Entry::Open)),
-        Word::Close => rest.says(Request::Enter(Entry::Close)),
-        Word::Deadline => rest.says(Request::Enter(Entry::Deadline)),
+        Word::Open => rest.enters(Entry::Open),
+        Word::Close => rest.enters(Entry::Close),
+        Word::Deadline => rest.enters(Entry::Deadline),
         Word::Report => rest.says(Request::Report),
     }
 }

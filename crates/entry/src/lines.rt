@@ -1,5 +1,5 @@
-// Each word's fields, from the end of the word to the end of the line. Words with fields alike, as deposit and withdraw, stay apart: a
-// function for both would take its keys and its case as parameters, and be no shorter than the two.
+// Each word's fields, from the end of the word to the end of the line. Words with fields alike (deposit, withdraw and cancel; spot and
+// mark) stay apart: what they share is a call or two, and a function for both would take keys and case as parameters.
 ghost use Rattle.std.specs.Prelude.{◌≡◌};
 ghost use Rattle.entry.specs.Entries.{asked};
 ghost use Rattle.entry.specs.Fields.{map_ok, ending};
@@ -44,13 +44,13 @@ pub(crate) fn product_line(mut rest: Rest<'_>) -> Result<Request<'_>, LineFault>
     let tick = rest.figure(b"tick=")?;
     let terms = read_terms(&mut rest)?;
     let spot = rest.figure(b"spot=")?;
-    rest.says(Request::Enter(Entry::Product {
+    rest.enters(Entry::Product {
         name,
         kind,
         tick,
         terms,
         spot,
-    }))
+    })
 }
 
 #[tactic(auto, unfolding(crate::specs::Fields::field_at))]
@@ -64,7 +64,7 @@ pub(crate) fn contract_line(mut rest: Rest<'_>) -> Result<Request<'_>, LineFault
     let floor = rest.figure(b"floor=")?;
     let ceiling = rest.figure(b"ceiling=")?;
     let mark = rest.figure(b"mark=")?;
-    rest.says(Request::Enter(Entry::Contract {
+    rest.enters(Entry::Contract {
         name,
         product,
         right,
@@ -72,7 +72,7 @@ pub(crate) fn contract_line(mut rest: Rest<'_>) -> Result<Request<'_>, LineFault
         floor,
         ceiling,
         mark,
-    }))
+    })
 }
 
 pub(crate) fn announce_line(mut rest: Rest<'_>) -> Result<Request<'_>, LineFault>
@@ -80,7 +80,7 @@ pub(crate) fn announce_line(mut rest: Rest<'_>) -> Result<Request<'_>, LineFault
 {
     let name = rest.name(b"name=")?;
     let terms = read_terms(&mut rest)?;
-    rest.says(Request::Enter(Entry::Announce { name, terms }))
+    rest.enters(Entry::Announce { name, terms })
 }
 
 pub(crate) fn band_line(mut rest: Rest<'_>) -> Result<Request<'_>, LineFault>
@@ -89,11 +89,11 @@ pub(crate) fn band_line(mut rest: Rest<'_>) -> Result<Request<'_>, LineFault>
     let contract = rest.name(b"contract=")?;
     let floor = rest.figure(b"floor=")?;
     let ceiling = rest.figure(b"ceiling=")?;
-    rest.says(Request::Enter(Entry::Band {
+    rest.enters(Entry::Band {
         contract,
         floor,
         ceiling,
-    }))
+    })
 }
 
 pub(crate) fn spot_line(mut rest: Rest<'_>) -> Result<Request<'_>, LineFault>
@@ -101,7 +101,7 @@ pub(crate) fn spot_line(mut rest: Rest<'_>) -> Result<Request<'_>, LineFault>
 {
     let product = rest.name(b"product=")?;
     let price = rest.figure(b"price=")?;
-    rest.says(Request::Enter(Entry::Spot { product, price }))
+    rest.enters(Entry::Spot { product, price })
 }
 
 pub(crate) fn mark_line(mut rest: Rest<'_>) -> Result<Request<'_>, LineFault>
@@ -109,28 +109,28 @@ pub(crate) fn mark_line(mut rest: Rest<'_>) -> Result<Request<'_>, LineFault>
 {
     let contract = rest.name(b"contract=")?;
     let price = rest.figure(b"price=")?;
-    rest.says(Request::Enter(Entry::Mark { contract, price }))
+    rest.enters(Entry::Mark { contract, price })
 }
 
 pub(crate) fn deposit_line(mut rest: Rest<'_>) -> Result<Request<'_>, LineFault>
     ensures { map_ok asked result ≡ rest_at DepositWord rest.entry.line.now rest.entry.at }
 {
     let amount = rest.figure(b"amount=")?;
-    rest.says(Request::Enter(Entry::Deposit { amount }))
+    rest.enters(Entry::Deposit { amount })
 }
 
 pub(crate) fn withdraw_line(mut rest: Rest<'_>) -> Result<Request<'_>, LineFault>
     ensures { map_ok asked result ≡ rest_at WithdrawWord rest.entry.line.now rest.entry.at }
 {
     let amount = rest.figure(b"amount=")?;
-    rest.says(Request::Enter(Entry::Withdraw { amount }))
+    rest.enters(Entry::Withdraw { amount })
 }
 
 pub(crate) fn cancel_line(mut rest: Rest<'_>) -> Result<Request<'_>, LineFault>
     ensures { map_ok asked result ≡ rest_at CancelWord rest.entry.line.now rest.entry.at }
 {
     let order = rest.figure(b"order=")?;
-    rest.says(Request::Enter(Entry::Cancel { order }))
+    rest.enters(Entry::Cancel { order })
 }
 
 #[tactic(auto, unfolding(crate::specs::Fields::field_at))]
@@ -142,13 +142,13 @@ pub(crate) fn order_line(mut rest: Rest<'_>) -> Result<Request<'_>, LineFault>
     let effect = rest.letter(b"effect=")?;
     let lots = rest.figure(b"lots=")?;
     let price = rest.figure(b"price=")?;
-    rest.says(Request::Enter(Entry::Order {
+    rest.enters(Entry::Order {
         contract,
         side,
         effect,
         lots,
         price,
-    }))
+    })
 }
 
 pub(crate) fn fill_line(mut rest: Rest<'_>) -> Result<Request<'_>, LineFault>
@@ -157,5 +157,5 @@ pub(crate) fn fill_line(mut rest: Rest<'_>) -> Result<Request<'_>, LineFault>
     let order = rest.figure(b"order=")?;
     let lots = rest.figure(b"lots=")?;
     let price = rest.figure(b"price=")?;
-    rest.says(Request::Enter(Entry::Fill { order, lots, price }))
+    rest.enters(Entry::Fill { order, lots, price })
 }

@@ -2,19 +2,19 @@
 ghost use Rattle.std.specs.Prelude.{◌≡◌, ◌+◌, ◌≤◌, ◌==◌, length, Ok};
 ghost use Rattle.std.specs.List.{position};
 ghost use Rattle.figure.specs.Figure.{and_then};
-ghost use Rattle.entry.specs.Entries.{asked};
+ghost use Rattle.entry.specs.Entries.{asked, enters, said};
 ghost use Rattle.entry.specs.Fields.{map_ok, ending, all_of, word, value_at, key_at, end_at, field_at, unread, figure_in, name_in, letter_in};
 
 use crate::fault::{LineFault, Misfigure};
 use crate::letters::Letter;
 use crate::names::is_name;
-use crate::types::Request;
+use crate::types::{Entry, Request};
 use figure::read_figure;
 
 // The longest line, without its line feed.
 const LONGEST: usize = 200;
 
-// A line, and the place where its next field begins.
+// A line, and the place where its next field begins. Not the part that is left alone: faults are told by their column in the line.
 #[derive(Drop)]
 pub(crate) struct Rest<'a> {
     line: &'a [u8],
@@ -30,7 +30,7 @@ struct Value<'a> {
     column: usize,
 }
 
-// The place of the first blank.
+// The place of the first blank. No `memchr`: a word is a few bytes long.
 fn first_blank(bytes: &[u8]) -> Option<usize>
     ensures { result ≡ position (λ b. b == 32) bytes.now }
 {
@@ -49,7 +49,8 @@ fn word(bytes: &[u8]) -> &[u8]
     }
 }
 
-// Each method that goes on says that the line stays: a fact of two moments, which no type can hold.
+// Each method that goes on says that the line stays: a fact of two moments, which no type can hold. A definition for it and the place
+// would take both lines, both places and the answer, and be no plainer.
 impl<'a> Rest<'a> {
     // All of a line, unless it is too long.
     pub(crate) fn of(line: &'a [u8]) -> Result<Rest<'a>, LineFault>
@@ -147,6 +148,13 @@ impl<'a> Rest<'a> {
         } else {
             Ok(())
         }
+    }
+
+    // What the line enters, if it ends here.
+    pub(crate) fn enters(self, entry: Entry<'a>) -> Result<Request<'a>, LineFault>
+        ensures { map_ok asked result ≡ and_then (end_at self.entry.line.now self.entry.at) (λ _. Ok (enters (said entry.entry))) }
+    {
+        self.says(Request::Enter(entry))
     }
 
     // What the line says, if it ends here.

@@ -41,7 +41,8 @@ pub struct Terms {
     pub mb: u64,
 }
 
-// What writes to an account; a name is a part of the line that was read.
+// What writes to an account; a name is a part of the line that was read. Every field of a line has a value, so none is an Option: a right, a
+// strike or a spot that a kind has not is N or 0.
 #[derive(Clone, Copy, Drop)]
 pub enum Entry<'a> {
     Product {

@@ -13,7 +13,7 @@ pub enum FigureFault {
     NotDigit,
 }
 
-// The digit that a byte stands for.
+// The digit that a byte stands for, matched as a character.
 fn digit(byte: u8) -> Result<u8, FigureFault>
     ensures value { result ≡ digit_of byte }
     ensures bound { IfOk result (λ d. d < 10) }
@@ -32,7 +32,7 @@ fn number(bytes: &[u8]) -> Result<u64, FigureFault>
     ensures bound { IfOk result (λ v. v < 10 ^ 15) }
 {
     let mut value: u64 = 0;
-    // no `try_fold`: how far the value may grow goes by the place, which its closure does not know
+    // tried `try_fold`, which does not prove: how far the value may grow goes by the place, which its closure does not know
     for &byte in bytes {
         value = value * 10 + digit(byte)? as u64;
     }

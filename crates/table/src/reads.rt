@@ -38,7 +38,8 @@ impl<T: Copy, const N: usize> Table<T, N> {
         &self.rows[..self.len]
     }
 
-    // A second table with equal items. No derived Copy: it asks for the places that hold no row too, and a clause sees the items alone.
+    // A second table with equal items. No derived `Copy`: it asks for the places that hold no row too, and a clause sees the items alone.
+    // Nor `Clone`, which may fail where this cannot.
     pub fn copied(&self) -> Table<T, N>
         ensures { result ≡ self.now }
     {

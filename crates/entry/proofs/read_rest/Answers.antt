@@ -35,13 +35,13 @@ pub returns-in-Fill : goal.returns-in-Fill
 returns-in-Fill c = rw c.in-Fill.is c.fill_line.ensures
 
 pub returns-in-Open : goal.returns-in-Open
-returns-in-Open c = rw c.in-Open.is c.says.ensures
+returns-in-Open c = rw c.in-Open.is c.enters.ensures
 
 pub returns-in-Close : goal.returns-in-Close
-returns-in-Close c = rw c.in-Close.is c.says-in-Close.ensures
+returns-in-Close c = rw c.in-Close.is c.enters-in-Close.ensures
 
 pub returns-in-Deadline : goal.returns-in-Deadline
-returns-in-Deadline c = rw c.in-Deadline.is c.says-in-Deadline.ensures
+returns-in-Deadline c = rw c.in-Deadline.is c.enters-in-Deadline.ensures
 
 pub returns-in-Report : goal.returns-in-Report
-returns-in-Report c = rw c.in-Report.is c.says-in-Report.ensures
+returns-in-Report c = rw c.in-Report.is c.says.ensures
