@@ -1,7 +1,7 @@
 -- Markets that only grew, or in which only bands changed: no figure of the account has moved, and available has not fallen.
-use Rattle.std.proofs.Common.{◌≡◌, ℕ, ◌*◌, ◌<◌, ◌≤◌, Bool, ◌&&◌, eqb, List, [], ◌∷◌, length, ℤ, pos, ◌+ℤ◌, ◌-ℤ◌, ◌≤ℤ◌, refl, ap, ◌∙◌, ap₂, arith}
+use Rattle.std.proofs.Common.{◌≡◌, ℕ, ◌<◌, ◌≤◌, Bool, length, ◌≤ℤ◌, refl, ◌∙◌, arith}
 use Rattle.std.proofs.lemmas.Int.{ints}
-use Rattle.std.proofs.lemmas.Bool.{ne_eqb}
+use Rattle.std.proofs.lemmas.Bool.Decides.{nat_tests}
 use Rattle.std.proofs.ByRecursion.{All-from_get_or, All-weaker}
 use Rattle.std.specs.List.{AllByRecursion}
 use Rattle.entry.specs.declared.types.Side.{Side}
@@ -12,14 +12,13 @@ use Rattle.margin_rule.proofs.Following.{everywhere}
 use Rattle.books.specs.declared.rows.Lots.{Lots}
 use Rattle.books.specs.declared.rows.Order.{Order}
 use Rattle.books.specs.declared.rows.Position.{Position}
-use Rattle.books.specs.declared.rows.Product.{Product}
 use Rattle.books.specs.Lots.{weigh, lots_of, one_if}
-use Rattle.books.specs.Market.{Market, Level, initially, by_kind, same_side, contract_at, product_at, product_of, marks, futures_tick, margin_a, published_at, better}
+use Rattle.books.specs.Market.{Market, Level, initially, contract_at, product_at, product_of, marks, futures_tick, margin_a, published_at}
 use Rattle.books.specs.Books.{Books, of_contract, of_product}
 use Rattle.books.specs.Figures.{lot_gain, futures_need, series_need, lot_reserve, equity, gain, initial_need, reserved, available}
 use Rattle.books.specs.Effects.{with_market}
 use Rattle.books.specs.Sound.{Sound}
-use Rattle.history.proofs.Sums.{weigh-agree, sum_to-longer}
+use Rattle.history.proofs.Sums.{weigh-agree, weigh-scale, sum_to-longer}
 use Rattle.history.proofs.Needs.{by_kind_zero}
 use Rattle.history.proofs.Results.{Alike, results_agree}
 
@@ -53,27 +52,23 @@ refers b s = record {
 pub of_lines : (b : Books) → Referring b → (P : Position → Type 0) → ((l : Position) → Listed b l.contract → P l) → AllByRecursion (λ (l : Lots Position). P l.of) b.lines
 of_lines b r P f = All-weaker (λ l. Listed b l.of.contract) (λ l. P l.of) (λ l h. f l.of h) b.lines r.lines
 
-below : (x n : ℕ) (t : Bool) → x < n → (i : ℕ) → n ≤ i → one_if (eqb x i && t) ≡ 0
-below x n t l i k = simp (ne_eqb x i (λ e. omega arith))
-
-none_of : {A : Type 0} (u : A → ℕ) (xs : List (Lots A)) → AllByRecursion (λ (x : Lots A). u x.of ≡ 0) xs → weigh u xs ≡ 0
-none_of u [] f = refl
-none_of u (x ∷ xs) f = omega (arith, none_of u xs f.1, ap (λ z. x.count * z) f.0)
-
-no_lower : (e e' : ℤ) (g g' i i' r r' s : ℕ) → e' ≡ e → g' ≡ g → i' ≤ i → r' ≡ r →
-    (e -ℤ pos g -ℤ pos i -ℤ pos r -ℤ pos s) ≤ℤ (e' -ℤ pos g' -ℤ pos i' -ℤ pos r' -ℤ pos s)
-no_lower e e' g g' i i' r r' s a b c d = omega (arith, ints)
-
 module _ (b : Books) (r : Referring b) (n : Market) (x : Extends b.market n) where
   -- the market before
   abbrev m : Market
   m = b.market
 
+  -- sums over lines that agree wherever a contract is listed
+  lines_alike : (u v : Position → ℕ) → ((l : Position) → Listed b l.contract → u l ≡ v l) → weigh u b.lines ≡ weigh v b.lines
+  lines_alike u v f = weigh-agree u v b.lines (of_lines b r (λ l. u l ≡ v l) f)
+
+  no_lots : (p : Position → Bool) → ((l : Position) → Listed b l.contract → one_if (p l) ≡ 0) → lots_of p b.lines ≡ 0
+  no_lots p f = omega (arith, lines_alike (λ l. one_if (p l)) (λ l. 0) f, weigh-scale 0 b.lines)
+
   same_product : (c : ℕ) → Listed b c → product_of n c ≡ product_of m c
-  same_product c l = ap (product_at n) (x.places c l) ∙ x.products (contract_at m c).product (r.contracts c l)
+  same_product c l = rw (x.places c l) (x.products (contract_at m c).product (r.contracts c l))
 
   same_tick : (c : ℕ) → Listed b c → futures_tick n c ≡ futures_tick m c
-  same_tick c l = ap (λ (p : Product). by_kind p.kind p.tick 0) (same_product c l)
+  same_tick c l = let p = same_product c l in cc
 
   same_published : (level : Level) (c : ℕ) → Listed b c → published_at n level (marks n) c ≡ published_at m level (marks m) c
   same_published level c l =
@@ -86,75 +81,51 @@ module _ (b : Books) (r : Referring b) (n : Market) (x : Extends b.market n) whe
   extends_equity : equity (with_market b n) ≡ equity b
   extends_equity =
       let alike = of_lines b r (Alike n m (marks n) (marks m)) (λ l h. (same_tick l.contract h, x.same_marks l.contract h)) in
-      ap (λ z. b.balance +ℤ z) (results_agree n m (marks n) (marks m) b.lines alike)
+      rw (results_agree n m (marks n) (marks m) b.lines alike)
 
   extends_gain : gain (with_market b n) ≡ gain b
-  extends_gain =
-      let same : (l : Position) → Listed b l.contract → lot_gain n (marks n) l ≡ lot_gain m (marks m) l = λ l h.
-      ap₂ (λ t p. t * better l.side p l.base) (same_tick l.contract h) (x.same_marks l.contract h) in
-      weigh-agree (lot_gain n (marks n)) (lot_gain m (marks m)) b.lines (of_lines b r (λ l. lot_gain n (marks n) l ≡ lot_gain m (marks m) l) same)
-
-  same_reserve : (rule : Meaning) (o : Order) → Listed b o.contract → lot_reserve rule n o ≡ lot_reserve rule m o
-  same_reserve rule o l =
-      let p = same_product o.contract l in
-      let f = same_published initially o.contract l in
-      let mk = x.same_marks o.contract l in
-      cc
+  extends_gain = lines_alike (lot_gain n (marks n)) (lot_gain m (marks m)) (λ l h. let t = same_tick l.contract h in let p = x.same_marks l.contract h in cc)
 
   extends_reserved : (rule : Meaning) → reserved rule (with_market b n) ≡ reserved rule b
   extends_reserved rule = weigh-agree (lot_reserve rule n) (lot_reserve rule m) b.orders
-      (All-weaker (λ o. Listed b o.of.contract) _ (λ o h. same_reserve rule o.of h) b.orders r.orders)
+      (All-weaker (λ o. Listed b o.of.contract) _ (λ o l.
+      let p = same_product o.of.contract l in
+      let f = same_published initially o.of.contract l in
+      let mk = x.same_marks o.of.contract l in
+      cc) b.orders r.orders)
 
   -- the lots of the products and series of old are the same, and there are none of the new
   same_lots : (i : ℕ) (s : Side) → lots_of (of_product n i s) b.lines ≡ lots_of (of_product m i s) b.lines
-  same_lots i s =
-      let same : (l : Position) → Listed b l.contract → one_if (of_product n i s l) ≡ one_if (of_product m i s l) = λ l h.
-      ap (λ p. one_if (eqb p i && same_side l.side s)) (x.places l.contract h) in
-      weigh-agree (λ l. one_if (of_product n i s l)) (λ l. one_if (of_product m i s l)) b.lines (of_lines b r (λ l. one_if (of_product n i s l) ≡ one_if (of_product m i s l)) same)
+  same_lots i s = lines_alike (λ l. one_if (of_product n i s l)) (λ l. one_if (of_product m i s l)) (λ l h. let p = x.places l.contract h in cc)
 
   no_product_lots : (i : ℕ) (s : Side) → length m.products ≤ i → lots_of (of_product n i s) b.lines ≡ 0
-  no_product_lots i s k =
-      let none : (l : Position) → Listed b l.contract → one_if (of_product m i s l) ≡ 0 = λ l h.
-      below (contract_at m l.contract).product (length m.products) (same_side l.side s) (r.contracts l.contract h) i k in
-      same_lots i s ∙ none_of (λ l. one_if (of_product m i s l)) b.lines (of_lines b r (λ l. one_if (of_product m i s l) ≡ 0) none)
+  no_product_lots i s k = same_lots i s ∙ no_lots (of_product m i s) (λ l h. let placed = r.contracts l.contract h in grind (arith, nat_tests))
 
   no_series_lots : (c : ℕ) (s : Side) → length m.contracts ≤ c → lots_of (of_contract c s) b.lines ≡ 0
-  no_series_lots c s k =
-      let none : (l : Position) → Listed b l.contract → one_if (of_contract c s l) ≡ 0 = λ l h. below l.contract (length m.contracts) (same_side l.side s) h c k in
-      none_of (λ l. one_if (of_contract c s l)) b.lines (of_lines b r (λ l. one_if (of_contract c s l) ≡ 0) none)
+  no_series_lots c s k = no_lots (of_contract c s) (λ l h. grind (arith, nat_tests))
 
   module _ (rule : Meaning) (laws : Laws rule) where
     none_needed : (l s q : ℕ) → l ≡ 0 → s ≡ 0 → (asked rule).need l s q ≡ 0
-    none_needed l s q e f = ap₂ (λ x y. (asked rule).need x y q) e f ∙ (everywhere rule laws).none q
+    none_needed l s q e f = let none = (everywhere rule laws).none q in cc
 
     -- what futures and series need in the new market and in the old
-    abbrev futures_now : ℕ → ℕ
-    futures_now = futures_need rule n initially b.lines
-
-    abbrev futures_then : ℕ → ℕ
-    futures_then = futures_need rule m initially b.lines
-
-    abbrev series_now : ℕ → ℕ
-    series_now = series_need rule n initially (marks n) b.lines
-
-    abbrev series_then : ℕ → ℕ
-    series_then = series_need rule m initially (marks m) b.lines
-
     extends_needs : initial_need rule (with_market b n) ≤ initial_need rule b
     extends_needs =
+        let futures_now = futures_need rule n initially b.lines in
+        let futures_then = futures_need rule m initially b.lines in
+        let series_now = series_need rule n initially (marks n) b.lines in
+        let series_then = series_need rule m initially (marks m) b.lines in
         let futures : (i : ℕ) → i < length m.products → futures_now i ≤ futures_then i = λ i l.
         let p = x.products i l in
         let f = same_lots i Buy in
         let g = same_lots i Sell in
-        let e : futures_now i ≡ futures_then i = cc in
-        omega (arith, e) in
+        grind arith in
         let no_futures : (i : ℕ) → length m.products ≤ i → futures_now i ≡ 0 = λ i l.
         by_kind_zero (product_at n i).kind _ 0 (none_needed _ _ (margin_a initially (product_at n i).terms) (no_product_lots i Buy l) (no_product_lots i Sell l)) refl in
         let series : (c : ℕ) → Listed b c → series_now c ≤ series_then c = λ c l.
         let p = same_product c l in
         let f = same_published initially c l in
-        let e : series_now c ≡ series_then c = cc in
-        omega (arith, e) in
+        grind arith in
         let no_series : (c : ℕ) → length m.contracts ≤ c → series_now c ≡ 0 = λ c l.
         by_kind_zero (product_of n c).kind 0 _ refl (none_needed 0 _ (published_at n initially (marks n) c) refl (no_series_lots c Sell l)) in
         omega (
@@ -165,5 +136,8 @@ module _ (b : Books) (r : Referring b) (n : Market) (x : Extends b.market n) whe
 
     pub extends_available : available rule b ≤ℤ available rule (with_market b n)
     extends_available =
-        no_lower (equity b) (equity (with_market b n)) (gain b) (gain (with_market b n)) (initial_need rule b) (initial_need rule (with_market b n)) (reserved rule b)
-        (reserved rule (with_market b n)) b.surcharge extends_equity extends_gain extends_needs (extends_reserved rule)
+        let equity = extends_equity in
+        let gain = extends_gain in
+        let needs = extends_needs in
+        let reserved = extends_reserved rule in
+        omega (arith, ints)

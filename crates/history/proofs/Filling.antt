@@ -1,13 +1,11 @@
 -- A fill: cash and results move by the fill measured to the prices, and available falls by fee and tax at most, because what the
 -- reservation hands back covers what the filled lots take.
-use Rattle.std.proofs.Common.{◌≡◌, ℕ, ◌+◌, ◌-◌, ◌*◌, ◌≤◌, max, List, ℤ, pos, ◌+ℤ◌, ◌-ℤ◌, ◌≤ℤ◌, Some, sym, refl, ap, ◌∙◌, subst₂, mul-le-mul_right, mul-le-mul_left, arith}
+use Rattle.std.proofs.Common.{◌≡◌, ℕ, ◌+◌, ◌-◌, ◌*◌, ◌≤◌, max, List, ℤ, pos, ◌+ℤ◌, ◌-ℤ◌, ◌≤ℤ◌, Some, refl, ap, mul-le-mul_right, mul-le-mul_left, arith}
 use borrow.Author.Differences.{up, down}
 use Rattle.std.proofs.lemmas.Int.{ints}
 use Rattle.std.specs.List.{find}
 use Rattle.entry.specs.declared.types.Kind.{Kind}
-use Rattle.entry.specs.declared.types.Kind.TheVariants.{Futures, Options}
 use Rattle.entry.specs.declared.types.Side.{Side}
-use Rattle.entry.specs.declared.types.Side.TheVariants.{Buy, Sell}
 use Rattle.entry.specs.declared.types.Effect.{Effect}
 use Rattle.entry.specs.declared.types.Effect.TheVariants.{Opening, Closing}
 use Rattle.margin_rule.specs.Meanings.{Meaning, asked}
@@ -15,11 +13,11 @@ use Rattle.margin_rule.specs.Laws.{Laws}
 use Rattle.books.specs.declared.rows.Lots.{Lots}
 use Rattle.books.specs.declared.rows.Order.{Order}
 use Rattle.books.specs.declared.rows.Position.{Position}
-use Rattle.books.specs.Lots.{weigh, lots_of, left}
+use Rattle.books.specs.Lots.{weigh, lots_of}
 use Rattle.books.specs.Market.{Market, Prices, initially, by_kind, by_side, product_of, contract_at, marks, futures_tick, option_tick, worse, better, out_of_money}
 use Rattle.books.specs.Books.{Books, by_effect, numbered, closable}
-use Rattle.books.specs.Figures.{result, results, equity, lot_gain, gain, needs, initial_need, lot_reserve, reserved, available}
-use Rattle.books.specs.Effects.{opened_line, lines_filled, realised, premium_in, premium_out, fees_of, taxes_of, filled}
+use Rattle.books.specs.Figures.{result, results, lot_gain, needs, lot_reserve, available}
+use Rattle.books.specs.Effects.{opened_line, lines_filled, realised, fees_of, taxes_of, filled}
 use Rattle.history.proofs.Sums.{weigh-push, weigh-left, weigh-left_le, weigh-first}
 use Rattle.history.proofs.Results.{result_is, results_push, results_closed}
 use Rattle.history.proofs.Needs.{needs_fewer, needs_opened, lot_share}
@@ -41,13 +39,11 @@ fill_moves m mk ls o k p h = moves_by m mk ls o k p o.effect h
 -- ---- what the lots take
 -- the ticks lost and those won between two prices
 swing : (s : Side) (now p : ℕ) → by_side s now p + worse s p now ≡ by_side s p now + better s now p
-swing Buy now p = omega arith
-swing Sell now p = omega arith
+swing s now p = grind arith
 
 -- a price within the limit is no worse
 within_limit : (s : Side) (p limit now : ℕ) → worse s p limit ≡ 0 → worse s p now ≤ worse s limit now
-within_limit Buy p limit now h = omega arith
-within_limit Sell p limit now h = omega arith
+within_limit s p limit now h = grind arith
 
 -- lots at a price within the limit are worth, beside what of it is gain, no less than was reserved
 fills_within : (s : Side) (k now p limit : ℕ) → worse s p limit ≡ 0 → down (result s k now p) + k * better s now p ≤ up (result s k now p) + k * worse s limit now
@@ -56,21 +52,13 @@ fills_within s k now p limit h =
 
 -- a premium within the limit
 premium_within : (s : Side) (k p limit tick : ℕ) → worse s p limit ≡ 0 → by_side s (k * (p * tick)) 0 ≤ k * by_side s (limit * tick) 0
-premium_within Buy k p limit tick h = let l : p ≤ limit = omega arith in mul-le-mul_left k (mul-le-mul_right tick l)
-premium_within Sell k p limit tick h = omega arith
+premium_within s k p limit tick h = let scaled = λ (l : p ≤ limit). mul-le-mul_left k (mul-le-mul_right tick l) in grind arith
 
 -- a reservation is the ticks to the limit of a future, the premium at the limit of an option bought, and the share of an opened lot
 reserve_parts : (kind : Kind) (s : Side) (f : Effect) (tick limit mark a b : ℕ) (lot : ℕ → ℕ) →
     by_kind kind (tick * worse s limit mark + by_effect f (lot (by_kind kind a b)) 0) (by_side s (limit * tick) (by_effect f (lot (by_kind kind a b)) 0))
     ≡ by_kind kind tick 0 * worse s limit mark + by_side s (limit * by_kind kind 0 tick) 0 + by_effect f (by_kind kind (lot a) (by_side s 0 (lot (by_kind kind a b)))) 0
-reserve_parts Futures Buy Opening tick limit mark a b lot = omega arith
-reserve_parts Futures Buy Closing tick limit mark a b lot = omega arith
-reserve_parts Futures Sell Opening tick limit mark a b lot = omega arith
-reserve_parts Futures Sell Closing tick limit mark a b lot = omega arith
-reserve_parts Options Buy Opening tick limit mark a b lot = omega arith
-reserve_parts Options Buy Closing tick limit mark a b lot = omega arith
-reserve_parts Options Sell Opening tick limit mark a b lot = omega arith
-reserve_parts Options Sell Closing tick limit mark a b lot = omega arith
+reserve_parts kind s f tick limit mark a b lot = grind arith
 
 -- ---- the figures after
 needs_by : (rule : Meaning) (laws : Laws rule) (m : Market) (ls : List (Lots Position)) (o : Order) (k p : ℕ) (f : Effect) →
@@ -84,28 +72,10 @@ gains_by : (u : Position → ℕ) (ls : List (Lots Position)) (o : Order) (k p :
 gains_by u ls o k p Opening = omega (arith, weigh-push u ls (opened_line o k p))
 gains_by u ls o k p Closing = omega (arith, weigh-left_le u (closable o) k ls)
 
--- the same in numbers
+-- the balance and the results after a fill, with its premium, fee and tax, in numbers
 pub cash_moves : (bal w w' paid moved : ℤ) (in' out fee tax : ℕ) → paid +ℤ w' ≡ w +ℤ moved →
     (bal +ℤ paid +ℤ pos in' -ℤ pos out -ℤ pos fee -ℤ pos tax +ℤ w') ≡ (bal +ℤ w +ℤ moved +ℤ pos in' -ℤ pos out -ℤ pos fee -ℤ pos tax)
 cash_moves bal w w' paid moved in' out fee tax a = omega (arith, ints)
-
-gathered : (x : ℤ) (a b c d : ℕ) → (x -ℤ pos a -ℤ pos b -ℤ pos c -ℤ pos d) ≡ (x -ℤ pos (a + b + c + d))
-gathered x a b c d = omega (arith, ints)
-
-charged : (x moved : ℤ) (in' out fee tax : ℕ) → (x +ℤ moved +ℤ pos in' -ℤ pos out -ℤ pos fee -ℤ pos tax) ≡ (x +ℤ moved +ℤ pos in' -ℤ pos (out + fee + tax))
-charged x moved in' out fee tax = omega (arith, ints)
-
-left_over : (x x' moved : ℤ) (in' out cost used used' : ℕ) → x' ≡ (x +ℤ moved +ℤ pos in' -ℤ pos (out + cost)) →
-    down moved + out + used' ≤ up moved + used → (x -ℤ pos used) ≤ℤ ((x' -ℤ pos used') +ℤ pos cost)
-left_over x x' moved in' out cost used used' e h = omega (arith, ints)
-
-settles : (x x' moved : ℤ) (gain gain' need need' kept kept' sur in' out fee tax made lost limit share : ℕ) →
-    x' ≡ (x +ℤ moved +ℤ pos in' -ℤ pos out -ℤ pos fee -ℤ pos tax) → down moved + made ≤ up moved + lost → gain' ≤ gain + made → need' ≤ need + share → kept' + (lost + limit + share) ≡ kept → out ≤ limit →
-    (x -ℤ pos gain -ℤ pos need -ℤ pos kept -ℤ pos sur) ≤ℤ ((x' -ℤ pos gain' -ℤ pos need' -ℤ pos kept' -ℤ pos sur) +ℤ pos (fee + tax))
-settles x x' moved gain gain' need need' kept kept' sur in' out fee tax made lost limit share a b c d e f =
-    let cost : out + fee + tax ≡ out + (fee + tax) = omega arith in
-    subst₂ (λ (y z : ℤ). y ≤ℤ (z +ℤ pos (fee + tax))) (sym (gathered x gain need kept sur)) (sym (gathered x' gain' need' kept' sur))
-    (left_over x x' moved in' out (fee + tax) (gain + need + kept + sur) (gain' + need' + kept' + sur) (a ∙ charged x moved in' out fee tax ∙ ap (λ y. x +ℤ moved +ℤ pos in' -ℤ pos y) cost) (omega arith))
 
 -- available falls by fee and tax at most
 pub fill_available : (rule : Meaning) (laws : Laws rule) (b : Books) (n k p : ℕ) (o : Lots Order) →
@@ -113,32 +83,22 @@ pub fill_available : (rule : Meaning) (laws : Laws rule) (b : Books) (n k p : �
     available rule b ≤ℤ (available rule (filled b n o.of k p) +ℤ pos (fees_of b.market o.of k + taxes_of b.market o.of k p))
 fill_available rule laws b n k p o e w h room =
     let m = b.market in
-    let c = o.of.contract in
     let s = o.of.side in
     let f = o.of.effect in
-    let mk = marks m c in
-    let ft = futures_tick m c in
-    let ot = option_tick m c in
-    let pr = product_of m c in
-    let after = lines_filled o.of k p f b.lines in
-    let w₀ = results m (marks m) b.lines in
-    let w₁ = results m (marks m) after in
-    let fill = result s (k * ft) mk p in
-    let gone = realised m o.of k p f b.lines in
-    let in' = premium_in m o.of k p in
-    let out = premium_out m o.of k p in
-    let fee = fees_of m o.of k in
-    let tax = taxes_of m o.of k p in
+    let mk = marks m o.of.contract in
+    let ft = futures_tick m o.of.contract in
+    let pr = product_of m o.of.contract in
     let u = lot_reserve rule m in
-    let g = lot_gain m (marks m) in
-    let orders = left (numbered n) k b.orders in
-    let share = by_effect f (lot_share rule m initially (marks m) (opened_line o.of k p).of) 0 in
-    let worth = mk * pr.tick + max (pr.terms.ia - pr.tick * out_of_money (contract_at m c).right (contract_at m c).strike pr.spot) pr.terms.ib in
-    let parts = reserve_parts pr.kind s f pr.tick o.of.limit mk pr.terms.ia worth (asked rule).lot in
-    let back : weigh u orders + (k * ft * worse s o.of.limit mk + k * by_side s (o.of.limit * ot) 0 + k * share) ≡ weigh u b.orders =
-    omega (arith, weigh-left u (numbered n) k b.orders, weigh-first u (numbered n) k b.orders o e h, ap (λ x. k * x) parts) in
-    let gains : weigh g after ≤ weigh g b.lines + k * ft * better s mk p = omega (arith, gains_by g b.lines o.of k p f) in
-    let moves = cash_moves b.balance w₀ w₁ gone fill in' out fee tax (fill_moves m (marks m) b.lines o.of k p room) in
-    settles (equity b) (equity (filled b n o.of k p)) fill (gain b) (weigh g after) (initial_need rule b) (needs rule m initially (marks m) after) (reserved rule b)
-    (weigh u orders) b.surcharge in' out fee tax _ _ _ _ moves (fills_within s (k * ft) mk p o.of.limit w) gains (needs_by rule laws m b.lines o.of k p f) back
-    (premium_within s k p o.of.limit ot w)
+    let worth = mk * pr.tick + max (pr.terms.ia - pr.tick * out_of_money (contract_at m o.of.contract).right (contract_at m o.of.contract).strike pr.spot) pr.terms.ib in
+    omega (
+      arith,
+      ints,
+      fill_moves m (marks m) b.lines o.of k p room,
+      fills_within s (k * ft) mk p o.of.limit w,
+      gains_by (lot_gain m (marks m)) b.lines o.of k p f,
+      needs_by rule laws m b.lines o.of k p f,
+      weigh-left u (numbered n) k b.orders,
+      weigh-first u (numbered n) k b.orders o e h,
+      ap (λ x. k * x) (reserve_parts pr.kind s f pr.tick o.of.limit mk pr.terms.ia worth (asked rule).lot),
+      premium_within s k p o.of.limit (option_tick m o.of.contract) w,
+    )

@@ -1,8 +1,7 @@
 -- Orders, fills, cash and phases keep the books sound while the market stays.
-use Rattle.std.proofs.Common.{◌≡◌, ℕ, ◌+◌, ◌-◌, ◌*◌, ◌<◌, ◌≤◌, Bool, true, false, List, [], ◌∷◌, ◌++◌, length, get_or, ℤ, refl, mul-le-mul_right, arith}
+use Rattle.std.proofs.Common.{◌≡◌, ℕ, ◌+◌, ◌*◌, ◌<◌, ◌≤◌, Bool, true, false, List, [], ◌∷◌, ◌++◌, length, get_or, ℤ, refl, mul-le-mul_right, arith}
 use Rattle.std.proofs.ByRecursion.{All-from_get_or}
 use Rattle.std.proofs.lemmas.List.{length_push}
-use Rattle.std.proofs.lemmas.Bool.{both_ways}
 use Rattle.books.specs.declared.phase.Phase.{Phase}
 use Rattle.books.specs.declared.phase.Call.{Call}
 use Rattle.books.specs.declared.rows.Lots.{Lots}
@@ -34,10 +33,6 @@ pub record Account (m : Market) (cash : ℤ) (extra given : ℕ) (phase : Phase)
   pub counted : LotsCounted given os ls
   pub balance : BalanceFits cash (lots_moved given os ls)
   pub surcharge : extra ≤ highest_surcharge
-
--- ---- sums of lots
-moved_more : (g g' o o' l l' : ℕ) → 100 * g + o' ≤ 100 * g' + o → l' ≡ l → 2 * (100 * g - o) - l ≤ 2 * (100 * g' - o') - l'
-moved_more g g' o o' l l' h e = omega arith
 
 -- a row shortened still fits
 pub shorter_order : (m : Market) (given : ℕ) → Shortens (OrderFits m given)
@@ -103,22 +98,18 @@ module _ (b : Books) (s : Sound b) where
       omega (arith, s.room, lots_within most_lots_of_one b.lines each)
 
   pub lines_bounded : Bounded (results b.market (marks b.market) b.lines) (all_lots b.lines * highest_worth)
-  lines_bounded = results_bounded b.market (marks b.market) b.lines (All-from_get_or (Priced b.market (marks b.market)) b.lines no_line priced)
-    where
-      priced : Each no_line (Priced b.market (marks b.market)) b.lines
-      priced i l =
-          let f = s.lines i l in
-          let x = (get_or b.lines i no_line).of in
-          let within = futures_affordable b.market x.contract in
-          (within (marks b.market x.contract) (mark_affordable x.contract f.0), within x.entry f.2)
+  lines_bounded =
+      results_bounded b.market (marks b.market) b.lines (All-from_get_or (Priced b.market (marks b.market)) b.lines no_line (λ i l.
+      let f = s.lines i l in
+      let x = (get_or b.lines i no_line).of in
+      let within = futures_affordable b.market x.contract in
+      (within (marks b.market x.contract) (mark_affordable x.contract f.0), within x.entry f.2)))
 
   -- ---- the same balance, where no lot was filled
   pub balance_kept : (given : ℕ) (os : List (Lots Order)) (ls : List (Lots Position)) →
       most_lots_of_one * b.given + all_lots os ≤ most_lots_of_one * given + all_lots b.orders →
       all_lots ls ≡ all_lots b.lines → BalanceFits b.balance (lots_moved given os ls)
-  balance_kept given os ls h e =
-      moved_fits b.balance (lots_moved b.given b.orders b.lines) (lots_moved given os ls) s.balance
-      (moved_more b.given given (all_lots b.orders) (all_lots os) (all_lots b.lines) (all_lots ls) h e)
+  balance_kept given os ls h e = moved_fits b.balance (lots_moved b.given b.orders b.lines) (lots_moved given os ls) s.balance (omega arith)
 
   -- ---- an order more, and one less
   pub order_added : (o : Lots Order) → in_session b.phase ≡ true → OrderFits b.market (b.given + 1) o → o.of.number ≡ b.given + 1 →
@@ -134,7 +125,7 @@ module _ (b : Books) (s : Sound b) where
         given_few = omega arith;
         orders = each_push no_order (OrderFits b.market (b.given + 1)) os o (λ i l. let f = s.orders i l in (f.0, f.1, (f.2.0, omega (arith, f.2.1)), f.3)) fits;
         numbers = numbers_push os o s.numbers (λ i l. omega (arith, (s.orders i l).2.1));
-        idle = λ e. absurd (both_ways (in_session b.phase) e on);
+        idle = λ e. cc;
         lines = s.lines;
         held = held;
         room = room;
@@ -152,7 +143,7 @@ module _ (b : Books) (s : Sound b) where
         given_few = s.given_few;
         orders = each_left no_order (OrderFits b.market b.given) (shorter_order b.market b.given) p k os s.orders;
         numbers = numbers_left p k os s.numbers;
-        idle = λ e. absurd (both_ways (in_session b.phase) e on);
+        idle = λ e. cc;
         lines = s.lines;
         held = held_left os b.lines s.held p k;
         room = omega (arith, s.room, weigh-left_le (λ o. one_if (opens_lots o)) p k os);

@@ -1,9 +1,8 @@
 -- A fill keeps the books sound.
-use Rattle.std.proofs.Common.{◌≡◌, ℕ, ◌+◌, ◌-◌, ◌*◌, ◌≤◌, true, false, List, get_or, ℤ, pos, ◌+ℤ◌, ◌-ℤ◌, Some, sym, refl, ap, subst, mul-le-mul_left, arith}
+use Rattle.std.proofs.Common.{◌≡◌, ℕ, ◌+◌, ◌*◌, ◌≤◌, true, false, List, get_or, ℤ, pos, ◌+ℤ◌, ◌-ℤ◌, Some, refl, ap, mul-le-mul_left, arith}
 use Rattle.std.proofs.ByRecursion.{All-from_get_or, All-weaker}
 use Rattle.std.proofs.lemmas.List.{length_push}
 use Rattle.std.proofs.lemmas.Int.{ints}
-use Rattle.std.proofs.lemmas.Bool.{both_ways}
 use Rattle.std.specs.List.{find}
 use Rattle.entry.specs.declared.types.Effect.{Effect}
 use Rattle.entry.specs.declared.types.Effect.TheVariants.{Opening, Closing}
@@ -24,9 +23,6 @@ use Rattle.history.proofs.KeepsHeld.{closed_held, held_fill}
 use Rattle.history.proofs.Results.{of_contract_lem}
 use Rattle.history.proofs.KeepsMoney.{Bounded, Priced, results_bounded, futures_affordable, part_all, premiums_within, taxes_within, fill_fits}
 use Rattle.history.proofs.KeepsAccount.{with_account, shorter_order, shorter_line}
-
-moved_fill : (g o o' l l' k j : ℕ) → o + l ≤ 100 * g → o' + k ≡ o → l' + j ≤ l + k → 2 * (100 * g - o) - l + k + j ≤ 2 * (100 * g - o') - l'
-moved_fill g o o' l l' k j h a b = omega arith
 
 -- the balance after k lots of an order at a price, of which closed futures lots paid r
 abbrev balance_with : Books → Order → ℕ → ℕ → ℤ → ℤ
@@ -80,14 +76,11 @@ module _ (b : Books) (s : Sound b) (n k price : ℕ) (o : Lots Order)
       let m = b.market in
       let ls = part (closable o.of) k b.lines in
       let Entered = λ (l : Position). l.entry * futures_tick m l.contract ≤ highest_worth in
-      let entry = λ (j : ℕ). (get_or b.lines j no_line).of in
-      let entered = All-from_get_or (λ (l : Lots Position). Entered l.of) b.lines no_line (λ j l. futures_affordable m (entry j).contract (entry j).entry (s.lines j l).2) in
-      let Closed = λ (l : Lots Position). Entered l.of × (closable o.of l.of ≡ true) in
-      let same = λ (l : Lots Position) (h : closable o.of l.of ≡ true). sym (of_contract_lem o.of.contract (other_side o.of.side) l.of h).0 in
+      let entered = All-from_get_or (λ (l : Lots Position). Entered l.of) b.lines no_line (λ j l. futures_affordable m (get_or b.lines j no_line).of.contract _ (s.lines j l).2) in
       let priced = futures_affordable m o.of.contract price worth in
-      let fit = All-weaker Closed (Priced m (λ c. price)) (λ l h. (subst (λ c. price * futures_tick m c ≤ highest_worth) (same l h.1) priced, h.0)) ls
+      let fit = All-weaker _ (Priced m (λ c. price)) (λ l h. (rw (of_contract_lem o.of.contract (other_side o.of.side) l.of h.1).0 priced, h.0)) ls
       (part_all Entered (closable o.of) k b.lines entered) in
-      subst (λ x. Bounded (results m (λ c. price) ls) (x * highest_worth)) (closed_lots i) (results_bounded m (λ c. price) ls fit)
+      rw (closed_lots i) at (results_bounded m (λ c. price) ls fit)
 
   balance_fits : (j : ℕ) (r : ℤ) (ls : List (Lots Position)) → Bounded r (j * highest_worth) → all_lots ls + j ≤ all_lots b.lines + k →
       BalanceFits (balance_with b o.of k price r) (lots_moved b.given (left (numbered n) k b.orders) ls)
@@ -99,9 +92,8 @@ module _ (b : Books) (s : Sound b) (n k price : ℕ) (o : Lots Order)
       let premiums = premiums_within o.of.side p.kind k price p.tick worth in
       let fees = mul-le-mul_left k charges.0 in
       let taxes = taxes_within k price p.tick p.terms.tax worth charges.1 in
-      let moved = moved_fill b.given (all_lots b.orders) (all_lots os) (all_lots b.lines) (all_lots ls) k j s.counted standing_fewer lots in
       fill_fits b.balance r j k (premium_in m o.of k price) (premium_out m o.of k price) (fees_of m o.of k) (taxes_of m o.of k price)
-      (lots_moved b.given b.orders b.lines) (lots_moved b.given os ls) s.balance bound premiums fees taxes moved
+      (lots_moved b.given b.orders b.lines) (lots_moved b.given os ls) s.balance bound premiums fees taxes (omega (arith, s.counted, standing_fewer))
 
   balance_still : (f : Effect) → o.of.effect ≡ f →
       BalanceFits (balance_with b o.of k price (realised b.market o.of k price f b.lines))
@@ -121,7 +113,7 @@ module _ (b : Books) (s : Sound b) (n k price : ℕ) (o : Lots Order)
         given_few = s.given_few;
         orders = each_left no_order (OrderFits b.market b.given) (shorter_order b.market b.given) (numbered n) k b.orders s.orders;
         numbers = numbers_left (numbered n) k b.orders s.numbers;
-        idle = λ e. absurd (both_ways (in_session b.phase) e on);
+        idle = λ e. cc;
         lines = lines_fit f;
         held = held_fill b.orders b.lines s.held n k o e all price f refl;
         room = room_still f refl;

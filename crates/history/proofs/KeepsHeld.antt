@@ -1,10 +1,8 @@
 -- Closing orders find their lots after an order more, and after a fill.
-use Rattle.std.proofs.Common.{◌≡◌, ℕ, ◌+◌, ◌*◌, ◌≤◌, Bool, true, false, ◌&&◌, eqb, List, [], ◌∷◌, ◌++◌, Some, sym, refl, ap, ◌∙◌, ap₂, subst₂, arith}
-use Rattle.std.proofs.lemmas.Bool.{and_parts, eqb-true}
+use Rattle.std.proofs.Common.{◌≡◌, ℕ, ◌+◌, ◌*◌, ◌≤◌, Bool, true, ◌&&◌, eqb, List, [], ◌∷◌, ◌++◌, Some, ap, arith}
 use Rattle.std.proofs.lemmas.Bool.Decides.{nat_tests}
 use Rattle.std.specs.List.{find}
 use Rattle.entry.specs.declared.types.Side.{Side}
-use Rattle.entry.specs.declared.types.Side.TheVariants.{Buy, Sell}
 use Rattle.entry.specs.declared.types.Effect.{Effect}
 use Rattle.entry.specs.declared.types.Effect.TheVariants.{Opening, Closing}
 use Rattle.books.specs.declared.rows.Lots.{Lots}
@@ -12,53 +10,24 @@ use Rattle.books.specs.declared.rows.Order.{Order}
 use Rattle.books.specs.declared.rows.Position.{Position}
 use Rattle.books.specs.Lots.{lots_of, one_if, left, part}
 use Rattle.books.specs.Market.{same_side, other_side}
-use Rattle.books.specs.Books.{ordered, by_effect, numbered, of_contract, closable, closes_on}
+use Rattle.books.specs.Books.{ordered, numbered, of_contract, closable, closes_on}
 use Rattle.books.specs.Effects.{lines_filled, opened_line}
 use Rattle.books.specs.Sound.{Held}
 use Rattle.history.proofs.Results.{of_contract_lem}
 use Rattle.history.proofs.Sums.{weigh-push, weigh-left, weigh-first, weigh-count, weigh-kind, weigh-scale}
 
--- ---- sides
-turned : (t z : Side) → same_side t (other_side z) ≡ true → other_side t ≡ z
-turned Buy Buy e = grind arith
-turned Buy Sell e = refl
-turned Sell Buy e = refl
-turned Sell Sell e = grind arith
-
-mirrored : (t z : Side) → same_side (other_side t) z ≡ same_side t (other_side z)
-mirrored Buy Buy = refl
-mirrored Buy Sell = refl
-mirrored Sell Buy = refl
-mirrored Sell Sell = refl
-
-same_itself : (t : Side) → same_side t (other_side (other_side t)) ≡ true
-same_itself Buy = refl
-same_itself Sell = refl
-
 -- ---- kinds of lots
 aimed : (d c : ℕ) (t z : Side) → (eqb d c && same_side t (other_side z)) ≡ true → (d ≡ c) × (other_side t ≡ z)
-aimed d c t z e =
-    let h = and_parts (eqb d c) (same_side t (other_side z)) e in
-    (eqb-true d c h.0, turned t z h.1)
-
-closing_is : (c : ℕ) (z : Side) (o : Order) → o.effect ≡ Closing → closes_on c z o ≡ (eqb o.contract c && same_side o.side (other_side z))
-closing_is c z o e = ap (λ f. by_effect f false (eqb o.contract c && same_side o.side (other_side z))) e
+aimed d c t z e = grind (arith, nat_tests)
 
 -- a lot that an order closes is of a kind just where the order closes that kind
 closes_like : (c : ℕ) (z : Side) (o : Order) (l : Position) → o.effect ≡ Closing → closable o l ≡ true → one_if (of_contract c z l) ≡ one_if (closes_on c z o)
 closes_like c z o l e h =
     let g = of_contract_lem o.contract (other_side o.side) l h in
-    let a : of_contract c z l ≡ (eqb o.contract c && same_side (other_side o.side) z) = ap₂ (λ x y. eqb x c && same_side y z) g.0 g.1 in
-    ap one_if (a ∙ ap (λ x. eqb o.contract c && x) (mirrored o.side z) ∙ sym (closing_is c z o e))
+    grind arith
 
 closes_itself : (o : Order) → o.effect ≡ Closing → one_if (closes_on o.contract (other_side o.side) o) ≡ 1
-closes_itself o e =
-    let q : eqb o.contract o.contract ≡ true = grind (arith, nat_tests) in
-    ap one_if (closing_is o.contract (other_side o.side) o e ∙ ap₂ (λ x y. x && y) q (same_itself o.side))
-
-at_most : (k : ℕ) (v : Bool) (x y : ℕ) → x ≤ y → (v ≡ true → x + k ≤ y) → x + k * one_if v ≤ y
-at_most k true x y a b = omega (arith, b refl)
-at_most k false x y a b = omega arith
+closes_itself o e = grind (arith, nat_tests)
 
 -- ---- orders and fills
 module _ (os : List (Lots Order)) (ls : List (Lots Position)) (h : Held os ls) where
@@ -68,12 +37,11 @@ module _ (os : List (Lots Order)) (ls : List (Lots Position)) (h : Held os ls) w
   pub held_closing : (n d : ℕ) (t : Side) (k q : ℕ) → lots_of (closes_on d (other_side t)) os + k ≤ lots_of (of_contract d (other_side t)) ls →
       Held (os ++ record { of = ordered n d t Closing q; count = k } ∷ []) ls
   held_closing n d t k q l c z =
-      omega (
-        arith,
-        weigh-push (λ o. one_if (closes_on c z o)) os (record { of = ordered n d t Closing q; count = k }),
-        at_most k (closes_on c z (ordered n d t Closing q)) (lots_of (closes_on c z) os) (lots_of (of_contract c z) ls) (h c z)
-            (λ e. let g = aimed d c t z e in subst₂ (λ (x : ℕ) (y : Side). lots_of (closes_on x y) os + k ≤ lots_of (of_contract x y) ls) g.0 g.1 l),
-      )
+      let o = ordered n d t Closing q in
+      let pushed = weigh-push (λ o. one_if (closes_on c z o)) os (record { of = o; count = k }) in
+      let before = h c z in
+      let free = λ (e : closes_on c z o ≡ true). let g = aimed d c t z e in rw (g.0, g.1) at l in
+      grind arith
 
   pub held_left : (p : Order → Bool) (k : ℕ) → Held (left p k os) ls
   held_left p k c z = omega (arith, weigh-left (λ o. one_if (closes_on c z o)) p k os, h c z)

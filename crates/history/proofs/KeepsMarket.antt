@@ -1,9 +1,9 @@
 -- A taken entry on the market keeps its rows sound, and the tick of every contract.
-use Rattle.std.proofs.Common.{◌≡◌, ℕ, ◌*◌, ◌<◌, ◌≤◌, true, ◌&&◌, leb, List, [], ◌∷◌, ◌++◌, length, get_or, sym, refl, ap, subst, arith}
+use Rattle.std.proofs.Common.{◌≡◌, ℕ, ◌*◌, ◌<◌, ◌≤◌, true, List, [], ◌∷◌, ◌++◌, length, get_or, refl, arith}
 use Rattle.std.proofs.lemmas.List.{length_push, get_or_append_left}
-use Rattle.std.proofs.lemmas.Bool.{and_parts, leb-true, ltb-true, eqb-true}
+use Rattle.std.proofs.lemmas.Bool.{ltb-true}
+use Rattle.std.proofs.lemmas.Bool.Decides.{nat_tests}
 use Rattle.entry.specs.declared.types.Kind.{Kind}
-use Rattle.entry.specs.declared.types.Kind.TheVariants.{Futures, Options}
 use Rattle.entry.specs.declared.types.Right.{Right}
 use Rattle.entry.specs.declared.types.Terms.{Terms}
 use Rattle.entry.specs.Entries.{Said, lists_product, lists_contract, announces, sets_band, sets_spot, sets_mark}
@@ -13,7 +13,7 @@ use Rattle.books.specs.declared.rows.Product.{Product}
 use Rattle.books.specs.Limits.{most_products, most_contracts, highest_tick, highest_fee, highest_tax, highest_position_limit, highest_share, highest_margin, highest_strike, highest_worth, within}
 use Rattle.books.specs.Market.{Market, product_at, contract_at, product_of, product_named, contract_named, changed_at, no_product, no_contract}
 use Rattle.books.specs.Books.{Books, no_order}
-use Rattle.books.specs.Sound.{Sound, Each, Between, TickFits, SpotFits, Banded, ContractFits, Affordable, no_line}
+use Rattle.books.specs.Sound.{Sound, Each, Between, TickFits, SpotFits, ContractFits, Affordable, no_line}
 use Rattle.books.specs.Tests.{tests, place_of, terms_fit, margins_fit, spot_fits, band_fits, product_by, contract_by}
 use Rattle.books.specs.Effects.{market_after, listed_product, listed_contract, with_terms, with_spot, with_band, with_mark, with_market}
 use Rattle.history.proofs.KeepsRows.{row_found, each_push, each_changed, length-changed, changed_leaves}
@@ -21,7 +21,7 @@ use Rattle.history.proofs.Tested.{Passed}
 
 -- ---- what the tests of ranges say
 pub in_range : (low high x : ℕ) → within low high x ≡ true → Between low high x
-in_range low high x e = let h = and_parts (leb low x) (leb x high) e in (leb-true low x h.0, leb-true x high h.1)
+in_range low high x e = grind (arith, nat_tests)
 
 abbrev pub TermsFit : Terms → Type 0
 TermsFit t =
@@ -30,38 +30,19 @@ TermsFit t =
     × ((1 ≤ t.ma) × (t.ma ≤ t.ia) × (t.ia ≤ highest_margin) × (t.mb ≤ t.ib) × (t.ib ≤ highest_margin))
 
 margins_fit_lem : (least maintenance initial : ℕ) → margins_fit least maintenance initial ≡ true → (least ≤ maintenance) × (maintenance ≤ initial) × (initial ≤ highest_margin)
-margins_fit_lem least maintenance initial e =
-    let h = and_parts (leb least maintenance) (leb maintenance initial && leb initial highest_margin) e in
-    let k = and_parts (leb maintenance initial) (leb initial highest_margin) h.1 in
-    (leb-true least maintenance h.0, leb-true maintenance initial k.0, leb-true initial highest_margin k.1)
+margins_fit_lem least maintenance initial e = grind (arith, nat_tests)
 
 terms_fit_lem : (kind : Kind) (t : Terms) → terms_fit kind t ≡ true → TermsFit t
 terms_fit_lem kind t e =
-    let f = and_parts (leb t.fee highest_fee) _ e in
-    let x = and_parts (leb t.tax highest_tax) _ f.1 in
-    let l = and_parts (within 1 highest_position_limit t.limit) _ x.1 in
-    let s = and_parts (within 1 highest_share t.share) _ l.1 in
-    let a = and_parts (margins_fit 1 t.ma t.ia) _ s.1 in
-    let b = and_parts (margins_fit 0 t.mb t.ib) _ a.1 in
-    let m = margins_fit_lem 1 t.ma t.ia a.0 in
-    let n = margins_fit_lem 0 t.mb t.ib b.0 in (
-      leb-true t.fee highest_fee f.0,
-      leb-true t.tax highest_tax x.0,
-      in_range 1 highest_position_limit t.limit l.0,
-      in_range 1 highest_share t.share s.0,
-      (m.0, m.1, m.2, n.1, n.2),
-    )
+    let a = margins_fit_lem 1 t.ma t.ia in
+    let b = margins_fit_lem 0 t.mb t.ib in
+    grind (arith, nat_tests)
 
 spot_fits_lem : (kind : Kind) (x : ℕ) → spot_fits kind x ≡ true → x ≤ highest_strike
-spot_fits_lem Futures x e = omega (arith, eqb-true x 0 e)
-spot_fits_lem Options x e = (in_range 1 highest_strike x e).1
+spot_fits_lem kind x e = grind (arith, nat_tests)
 
 band_fits_lem : (tick floor mark ceiling : ℕ) → band_fits tick floor mark ceiling ≡ true → (1 ≤ floor) × (floor ≤ mark) × (mark ≤ ceiling) × (ceiling * tick ≤ highest_worth)
-band_fits_lem tick floor mark ceiling e =
-    let f = and_parts (leb 1 floor) _ e in
-    let m = and_parts (leb floor mark) _ f.1 in
-    let c = and_parts (leb mark ceiling) _ m.1 in
-    (leb-true 1 floor f.0, leb-true floor mark m.0, leb-true mark ceiling c.0, leb-true (ceiling * tick) highest_worth c.1)
+band_fits_lem tick floor mark ceiling e = grind (arith, nat_tests)
 
 -- ---- products
 abbrev pub ProductFits : Product → Type 0
@@ -88,8 +69,7 @@ KeptBy b e = MarketKept b.market (market_after b.market e)
 
 contract_carried : (m m' : Market) (c : Contract) → length m.products ≤ length m'.products →
     ((i : ℕ) → i < length m.products → (product_at m' i).tick ≡ (product_at m i).tick) → ContractFits m c → ContractFits m' c
-contract_carried m m' c le ticks f =
-    (omega arith, f.1, subst (λ t. Banded t c) (sym (ticks c.product f.0)) f.2)
+contract_carried m m' c le ticks f = (omega arith, f.1, rw (ticks c.product f.0) f.2)
 
 -- other products for the same contracts, and other contracts for the same products
 module _ (b : Books) (s : Sound b) where
@@ -115,7 +95,7 @@ module _ (b : Books) (s : Sound b) where
     products = products_fit b s;
     contracts = fit;
     places = le;
-    ticks = λ c l. ap (λ i. (product_at b.market i).tick) (products c l);
+    ticks = λ c l. rw (products c l);
   }
 
   -- ---- each entry
@@ -128,7 +108,7 @@ module _ (b : Books) (s : Sound b) where
       let few = ltb-true (length ps) most_products p.1.1.0 in
       let fits : ProductFits x = (in_range 1 highest_tick tick p.1.1.1.1.0, spot_fits_lem kind spot p.1.1.1.1.1.1.0, terms_fit_lem kind terms p.1.1.1.1.1.0) in
       other_products (ps ++ x ∷ []) (omega arith) (omega arith) (each_push no_product ProductFits ps x (products_fit b s) fits)
-      (λ i l. ap (λ (q : Product). q.tick) (get_or_append_left ps (x ∷ []) no_product i l))
+      (λ i l. rw (get_or_append_left ps (x ∷ []) no_product i l))
 
   pub contract_listed_lem : (rule : Meaning) (name product : List ℕ) (right : Right) (strike floor ceiling mark : ℕ) →
       Passed (tests rule b (lists_contract name product right strike floor ceiling mark)) →
@@ -140,9 +120,9 @@ module _ (b : Books) (s : Sound b) where
       let few = ltb-true (length cs) most_contracts p.1.1.1.0 in
       let r = row_found _ no_product b.market.products p.1.0 in
       let band = band_fits_lem (product_by b.market product).tick floor mark ceiling p.1.1.1.1.1.1.1.0 in
-      let fits : ContractFits b.market x = (r.0, spot_fits_lem (product_by b.market product).kind strike p.1.1.1.1.1.1.0, subst (λ (q : Product). Banded q.tick x) r.1 band) in
+      let fits : ContractFits b.market x = (r.0, spot_fits_lem (product_by b.market product).kind strike p.1.1.1.1.1.1.0, rw (← r.1) band) in
       other_contracts (cs ++ x ∷ []) (omega arith) (omega arith) (each_push no_contract (ContractFits b.market) cs x s.contracts fits)
-      (λ i l. ap (λ (q : Contract). q.product) (get_or_append_left cs (x ∷ []) no_contract i l))
+      (λ i l. rw (get_or_append_left cs (x ∷ []) no_contract i l))
 
   product_changed : (name : List ℕ) (f : Product → Product) → ((q : Product) → (f q).tick ≡ q.tick) →
       ((q : Product) → ProductFits q → ProductFits (f q)) →
@@ -212,4 +192,4 @@ module _ (b : Books) (s : Sound b) where
     where
       affordable_still : (m : Market) → MarketKept b.market m → (c price : ℕ) → c < length b.market.contracts → Affordable b.market c price →
           Affordable m c price
-      affordable_still m k c price l h = subst (λ t. price * t ≤ highest_worth) (sym (k.ticks c l)) h
+      affordable_still m k c price l h = rw (k.ticks c l) h
