@@ -1,6 +1,6 @@
 -- A fill: cash and results move by the fill measured to the prices, and available falls by fee and tax at most, because what the
 -- reservation hands back covers what the filled lots take.
-use Rattle.std.proofs.Common.{◌≡◌, ℕ, ◌+◌, ◌-◌, ◌*◌, ◌≤◌, max, List, ℤ, pos, ◌+ℤ◌, ◌-ℤ◌, ◌≤ℤ◌, Some, refl, ap, mul-le-mul_right, mul-le-mul_left, arith}
+use Rattle.std.proofs.Common.{◌≡◌, ℕ, ◌+◌, ◌-◌, ◌*◌, ◌≤◌, max, List, pos, ◌+ℤ◌, ◌≤ℤ◌, Some, refl, ap, mul-le-mul_right, mul-le-mul_left, arith}
 use borrow.Author.Differences.{up, down}
 use Rattle.std.proofs.lemmas.Int.{ints}
 use Rattle.std.specs.List.{find}
@@ -71,11 +71,6 @@ gains_by : (u : Position → ℕ) (ls : List (Lots Position)) (o : Order) (k p :
     weigh u (lines_filled o k p f ls) ≤ weigh u ls + k * u (opened_line o k p).of
 gains_by u ls o k p Opening = omega (arith, weigh-push u ls (opened_line o k p))
 gains_by u ls o k p Closing = omega (arith, weigh-left_le u (closable o) k ls)
-
--- the balance and the results after a fill, with its premium, fee and tax, in numbers
-pub cash_moves : (bal w w' paid moved : ℤ) (in' out fee tax : ℕ) → paid +ℤ w' ≡ w +ℤ moved →
-    (bal +ℤ paid +ℤ pos in' -ℤ pos out -ℤ pos fee -ℤ pos tax +ℤ w') ≡ (bal +ℤ w +ℤ moved +ℤ pos in' -ℤ pos out -ℤ pos fee -ℤ pos tax)
-cash_moves bal w w' paid moved in' out fee tax a = omega (arith, ints)
 
 -- available falls by fee and tax at most
 pub fill_available : (rule : Meaning) (laws : Laws rule) (b : Books) (n k p : ℕ) (o : Lots Order) →

@@ -1,5 +1,5 @@
 -- New books are sound, and every entry keeps them so.
-use Rattle.std.proofs.Common.{◌≡◌, ℕ, ◌+◌, ◌<◌, ◌≤◌, List, [], ◌∷◌, length, pos, ◌+ℤ◌, ◌-ℤ◌, sym, refl, subst, arith}
+use Rattle.std.proofs.Common.{◌≡◌, ℕ, ◌+◌, ◌<◌, ◌≤◌, List, [], ◌∷◌, length, pos, ◌+ℤ◌, ◌-ℤ◌, refl, arith, rules}
 use Rattle.std.proofs.ByRecursion.{All-from_get_or, All-get_or}
 use Rattle.std.proofs.lemmas.Int.{ints}
 use Rattle.std.proofs.lemmas.Bool.{leb-true, ltb-true, not-true}
@@ -10,8 +10,7 @@ use Rattle.entry.specs.declared.types.Effect.TheVariants.{Opening, Closing}
 use Rattle.entry.specs.Entries.{Said, lists_product, lists_contract, announces, sets_band, sets_spot, sets_mark, deposits, withdraws, cancels, orders, fills, opens, closes, ends_deadline}
 use Rattle.margin_rule.specs.Meanings.{Meaning}
 use Rattle.books.specs.declared.phase.Phase.{Phase}
-use Rattle.books.specs.declared.phase.Phase.TheVariants.{Before, Regular, Settled, AfterHours}
-use Rattle.books.specs.declared.rows.Contract.{Contract}
+use Rattle.books.specs.declared.phase.Phase.TheVariants.{Regular}
 use Rattle.books.specs.declared.rows.Lots.{Lots}
 use Rattle.books.specs.declared.rows.Order.{Order}
 use Rattle.books.specs.declared.rows.Position.{Position}
@@ -19,41 +18,21 @@ use Rattle.books.specs.Limits.{most_orders, most_given, most_lines, most_lots_of
 use Rattle.books.specs.Lots.{lots_of, all_lots, one_if}
 use Rattle.books.specs.Market.{Market, Prices, contract_at, contract_named, no_contract, other_side, marks}
 use Rattle.books.specs.Books.{Books, new, no_order, ordered, numbered, of_contract, closes_on, opens_lots, in_session, next_phase, at_regular_close}
-use Rattle.books.specs.Figures.{results, gain, initial_need, reserved, surcharge_of}
+use Rattle.books.specs.Figures.{surcharge_of}
 use Rattle.books.specs.Tests.{Answer, taken, declined, answer, tests, number, place_of, order_place, order_by, contract_by}
 use Rattle.books.specs.Effects.{after, settled, effect_of, rebased, filled, closed}
-use Rattle.books.specs.Sound.{Sound, Each, Affordable, OrderFits, LineFits, lots_moved, highest_surcharge, no_line}
+use Rattle.books.specs.Sound.{Sound, Each, Affordable, OrderFits, LineFits, highest_surcharge, no_line}
 use Rattle.history.proofs.Sums.{weigh-push}
 use Rattle.history.proofs.Tested.{Passed, passed}
 use Rattle.history.proofs.KeepsRows.{row_found}
 use Rattle.history.proofs.KeepsMarket.{in_range, market_kept, product_listed_lem, contract_listed_lem, terms_announced, band_set, spot_set, mark_set_lem}
 use Rattle.history.proofs.KeepsHeld.{held_opening, held_closing}
-use Rattle.history.proofs.KeepsMoney.{deposit_fits, withdrawal_fits, surcharge_within}
+use Rattle.history.proofs.KeepsMoney.{surcharge_within}
 use Rattle.history.proofs.KeepsAccount.{with_account, same_lots, affordable, mark_affordable, lots_few, lines_bounded, balance_kept, order_added, order_cut}
 use Rattle.history.proofs.KeepsFill.{fill_kept}
 
 pub sound_new : Sound new
-sound_new = record {
-  products_few = omega arith;
-  contracts_few = omega arith;
-  ticks = λ i l. absurd (omega arith);
-  charges = λ i l. absurd (omega arith);
-  limits = λ i l. absurd (omega arith);
-  margins = λ i l. absurd (omega arith);
-  spots = λ i l. absurd (omega arith);
-  contracts = λ i l. absurd (omega arith);
-  orders_few = omega arith;
-  given_few = omega arith;
-  orders = λ i l. absurd (omega arith);
-  numbers = λ i j l k. absurd (omega arith);
-  idle = λ e. refl;
-  lines = λ i l. absurd (omega arith);
-  held = λ c side. omega arith;
-  room = omega arith;
-  counted = omega arith;
-  balance = (omega (arith, ints), omega (arith, ints));
-  surcharge = omega arith;
-}
+sound_new = search (rules, arith, ints)
 
 -- ---- a close
 rebased_length : (price : Prices) (ls : List (Lots Position)) → length (rebased price ls) ≡ length ls
@@ -67,13 +46,11 @@ rebased_lots price (l ∷ ls) = omega (arith, rebased_lots price ls)
 rebased_fit : (m : Market) (price : Prices) (ls : List (Lots Position)) → ((c : ℕ) → c < length m.contracts → Affordable m c (price c)) →
     AllByRecursion (LineFits m) ls → AllByRecursion (LineFits m) (rebased price ls)
 rebased_fit m price [] a f = tt
-rebased_fit m price (l ∷ ls) a f = ((f.0.0, f.0.1, f.0.2, a l.of.contract f.0.0), rebased_fit m price ls a f.1)
+rebased_fit m price (l ∷ ls) a f = search (rules, a, f, rebased_fit m price ls a f.1)
 
 either_close : {A : Type 0} (P : A → Type 0) (phase : Phase) (r a : A) → P r → P a → P (at_regular_close phase r a)
-either_close P Before r a h k = k
 either_close P Regular r a h k = h
-either_close P Settled r a h k = k
-either_close P AfterHours r a h k = k
+either_close P _ r a h k = k
 
 -- the lines that a close leaves
 abbrev Settles : Books → List (Lots Position) → Type 0
@@ -82,12 +59,10 @@ Settles b ls = Each no_line (LineFits b.market) ls × (length ls ≡ length b.li
 module _ (rule : Meaning) (b : Books) (s : Sound b) where
   settles : Settles b (at_regular_close b.phase (rebased (marks b.market) b.lines) b.lines)
   settles =
-      let mk = marks b.market in
-      let ls = b.lines in
-      let fit = rebased_fit b.market mk ls (mark_affordable b s) (All-from_get_or (LineFits b.market) ls no_line s.lines) in
-      either_close (Settles b) b.phase (rebased mk ls) ls
-      ((λ i l. All-get_or (LineFits b.market) (rebased mk ls) i no_line l fit), rebased_length mk ls, rebased_lots mk ls)
-      (s.lines, refl, refl)
+      let price = marks b.market in
+      let fit = rebased_fit b.market price b.lines (mark_affordable b s) (All-from_get_or (LineFits b.market) b.lines no_line s.lines) in
+      let each : Each no_line (LineFits b.market) (rebased price b.lines) = λ i l. All-get_or (LineFits b.market) (rebased price b.lines) i no_line l fit in
+      either_close (Settles b) b.phase (rebased price b.lines) b.lines (each, rebased_length price b.lines, rebased_lots price b.lines) (s.lines, refl, refl)
 
   close_kept : Sound (closed rule b)
   close_kept =
@@ -95,19 +70,9 @@ module _ (rule : Meaning) (b : Books) (s : Sound b) where
       let surcharge = at_regular_close b.phase (surcharge_of b.market b.lines) b.surcharge in
       let same = settles in
       let computed = surcharge_within b.market b.lines s.products_few (λ i l. (s.margins i l).2) (lots_few b s) in
-      with_account b s b.balance surcharge b.given (next_phase b.phase) (closed rule b).call [] ls (record {
-        orders_few = omega arith;
-        given_few = s.given_few;
-        orders = λ i l. absurd (omega arith);
-        numbers = λ i j l k. absurd (omega arith);
-        idle = λ e. refl;
-        lines = same.0;
-        held = λ c side. omega arith;
-        room = omega (arith, s.room, same.1);
-        counted = omega (arith, s.counted, same.2);
-        balance = balance_kept b s b.given [] ls (omega arith) same.2;
-        surcharge = either_close (λ x. x ≤ highest_surcharge) b.phase (surcharge_of b.market b.lines) b.surcharge computed s.surcharge;
-      })
+      let fits = balance_kept b s b.given [] ls (omega arith) same.2 in
+      let charged = either_close (λ x. x ≤ highest_surcharge) b.phase (surcharge_of b.market b.lines) b.surcharge computed s.surcharge in
+      with_account b s b.balance surcharge b.given (next_phase b.phase) (closed rule b).call [] ls (search (rules, arith, s, same))
 
   -- ---- orders and fills, by what an entry names
   module _ (name : List ℕ) (side : Side) (lots price : ℕ) where
@@ -118,29 +83,29 @@ module _ (rule : Meaning) (b : Books) (s : Sound b) where
     placed_fits f p =
         let r = row_found _ no_contract b.market.contracts p.1.0 in
         let x = contract_by b.market name in
-        let ceiling = subst (λ (x : Contract). price ≤ x.ceiling) r.1 (in_range x.floor x.ceiling price p.1.1.1.0).1 in
+        let ceiling = rw r.1 at (in_range x.floor x.ceiling price p.1.1.1.0).1 in
         (r.0, in_range 1 most_lots_of_one lots p.1.1.0, (omega arith, omega arith), affordable b s (place_of (contract_named b.market name)) price r.0 ceiling)
 
     order_kept : (f : Effect) → Passed (tests rule b (orders name side f lots price)) → Sound (effect_of rule b (orders name side f lots price))
     order_kept Opening p =
         let q = p.1.1.1.1 in
-        let t = leb-true (length b.lines + lots_of opens_lots b.orders + lots) most_lines q.1.1.0 in
+        let fits = leb-true (length b.lines + lots_of opens_lots b.orders + lots) most_lines q.1.1.0 in
         order_added b s (placed Opening) p.0 (placed_fits Opening p) refl (ltb-true (length b.orders) most_orders q.0) (ltb-true b.given most_given q.1.0)
         (held_opening b.orders b.lines s.held (b.given + 1) (place_of (contract_named b.market name)) side lots price)
         (omega (arith, weigh-push (λ o. one_if (opens_lots o)) b.orders (placed Opening)))
     order_kept Closing p =
         let q = p.1.1.1.1 in
         let c = place_of (contract_named b.market name) in
-        let t = leb-true (lots_of (closes_on c (other_side side)) b.orders + lots) (lots_of (of_contract c (other_side side)) b.lines) q.0 in
+        let fits = leb-true (lots_of (closes_on c (other_side side)) b.orders + lots) (lots_of (of_contract c (other_side side)) b.lines) q.0 in
         order_added b s (placed Closing) p.0 (placed_fits Closing p) refl (ltb-true (length b.orders) most_orders q.1.0) (ltb-true b.given most_given q.1.1.0)
-        (held_closing b.orders b.lines s.held (b.given + 1) c side lots price t)
+        (held_closing b.orders b.lines s.held (b.given + 1) c side lots price fits)
         (omega (arith, s.room, weigh-push (λ o. one_if (opens_lots o)) b.orders (placed Closing)))
 
   fills_kept : (n lots price : ℕ) → Passed (tests rule b (fills n lots price)) → Sound (filled b n (order_by b n).of lots price)
   fills_kept n lots price p =
       let r = row_found (λ o. numbered n o.of) no_order b.orders p.1.0 in
       let o = order_by b n in
-      let fits = subst (OrderFits b.market b.given) (sym r.1) (s.orders (place_of (order_place b n)) r.0) in
+      let fits : OrderFits b.market b.given o = rw r.1 (s.orders (place_of (order_place b n)) r.0) in
       let x = contract_at b.market o.of.contract in
       let ceiling = (in_range x.floor x.ceiling price p.1.1.1.0).1 in
       let some = (in_range 1 most_lots_of_one lots p.1.1.0).0 in
@@ -156,14 +121,9 @@ module _ (rule : Meaning) (b : Books) (s : Sound b) where
   taken_kept (sets_spot product price) p = market_kept b s _ (spot_set b s rule product price p)
   taken_kept (sets_mark contract price) p = market_kept b s _ (mark_set_lem b s rule contract price p)
   taken_kept (deposits amount) p =
-      let fits = deposit_fits b.balance amount (lots_moved b.given b.orders b.lines) s.balance p.1.0 in
-      same_lots b s (b.balance +ℤ pos amount) b.phase b.call fits s.idle
+      same_lots b s (b.balance +ℤ pos amount) b.phase b.call (search (arith, ints, s.balance, p.1.0)) s.idle
   taken_kept (withdraws amount) p =
-      let r = results b.market (marks b.market) b.lines in
-      let moved = lots_moved b.given b.orders b.lines in
-      let fits = withdrawal_fits b.balance r amount (all_lots b.lines) (gain b) (initial_need rule b) (reserved rule b) b.surcharge moved
-      s.balance (lines_bounded b s) (lots_few b s) p.1.0 in
-      same_lots b s (b.balance -ℤ pos amount) b.phase b.call fits s.idle
+      same_lots b s (b.balance -ℤ pos amount) b.phase b.call (search (arith, ints, s.balance, lines_bounded b s, lots_few b s, p.1.0)) s.idle
   taken_kept (cancels n) p = order_cut b s (numbered n) (order_by b n).count p.0
   taken_kept (orders contract side effect lots price) p = order_kept contract side lots price effect p
   taken_kept (fills n lots price) p = fills_kept n lots price p

@@ -1,19 +1,19 @@
 -- Results of futures lots as what they bring less what they cost; what closed lots pay, and what the rest keeps.
-use Rattle.std.proofs.Common.{◌≡◌, ℕ, ◌+◌, ◌*◌, ◌≤◌, true, eqb, List, [], ◌∷◌, ◌++◌, pos, ◌+ℤ◌, ◌-ℤ◌, refl, ap, arith}
+use Rattle.std.proofs.Common.{◌≡◌, ℕ, Bool, ◌+◌, ◌*◌, ◌≤◌, true, List, [], ◌∷◌, ◌++◌, pos, ◌+ℤ◌, ◌-ℤ◌, refl, ap, arith}
 use borrow.Author.Differences.{up, down}
 use Rattle.std.proofs.lemmas.Int.{ints}
-use Rattle.std.proofs.lemmas.Bool.{and_parts, eqb-true}
+use Rattle.std.proofs.lemmas.Bool.Decides.{nat_tests}
 use Rattle.std.specs.List.{AllByRecursion}
 use Rattle.entry.specs.declared.types.Side.{Side}
 use Rattle.entry.specs.declared.types.Side.TheVariants.{Buy, Sell}
 use Rattle.books.specs.declared.rows.Lots.{Lots}
 use Rattle.books.specs.declared.rows.Position.{Position}
-use Rattle.books.specs.Lots.{weigh, lots_of, left, part}
-use Rattle.books.specs.Market.{Market, Prices, by_side, same_side, other_side, futures_tick}
+use Rattle.books.specs.Lots.{weigh, lots_of, all_lots, left, part}
+use Rattle.books.specs.Market.{Market, Prices, by_side, other_side, futures_tick}
 use Rattle.books.specs.Books.{of_contract}
 use Rattle.books.specs.Figures.{result, results}
 use Rattle.books.specs.Effects.{rebased}
-use Rattle.history.proofs.Sums.{weigh-left, weigh-count, weigh-kind, weigh-scale}
+use Rattle.history.proofs.Sums.{weigh-left, weigh-count, part_kind}
 
 -- what a lot brings and costs between its entry price and the price given
 abbrev brings : Market → Prices → Position → ℕ
@@ -39,77 +39,50 @@ pub results_push : (m : Market) (mk : Prices) (ls : List (Lots Position)) (l : L
 results_push m mk [] l = omega (arith, ints)
 results_push m mk (x ∷ ls) l = omega (arith, ints, results_push m mk ls l)
 
-same_side_lem : (s t : Side) → same_side s t ≡ true → s ≡ t
-same_side_lem Buy Buy e = refl
-same_side_lem Buy Sell e = absurd (let z : ◌≡◌ {A = ℕ} 0 1 = cc in omega arith)
-same_side_lem Sell Buy e = absurd (let z : ◌≡◌ {A = ℕ} 0 1 = cc in omega arith)
-same_side_lem Sell Sell e = refl
-
 pub of_contract_lem : (c : ℕ) (s : Side) (l : Position) → of_contract c s l ≡ true → (l.contract ≡ c) × (l.side ≡ s)
-of_contract_lem c s l e =
-    let h = and_parts (eqb l.contract c) (same_side l.side s) e in
-    (eqb-true l.contract c h.0, same_side_lem l.side s h.1)
+of_contract_lem c s l e = grind (arith, nat_tests)
 
--- a sold lot brings its entry price whatever the price, a bought one costs it
-module _ (m : Market) (mk nk : Prices) (c : ℕ) (l : Position) where
-  sold_brings : of_contract c Sell l ≡ true → brings m mk l ≡ brings m nk l
-  sold_brings e = let h = of_contract_lem c Sell l e in simp h.1
+-- what is left and what was taken are worth what all were
+results_left : (m : Market) (mk : Prices) (q : Position → Bool) (k : ℕ) (ls : List (Lots Position)) → results m mk (part q k ls) +ℤ results m mk (left q k ls) ≡ results m mk ls
+results_left m mk q k ls = omega (
+  arith,
+  ints,
+  weigh-left (brings m mk) q k ls,
+  weigh-left (costs m mk) q k ls,
+  results_is m mk ls,
+  results_is m mk (left q k ls),
+  results_is m mk (part q k ls),
+)
 
-  bought_costs : of_contract c Buy l ≡ true → costs m mk l ≡ costs m nk l
-  bought_costs e = let h = of_contract_lem c Buy l e in simp h.1
+-- lots closed at a price are worth what they were and the fill measured to the prices
+closed_result : (s : Side) (k now was p : ℕ) → result (other_side s) k p was ≡ (result (other_side s) k now was +ℤ result s k now p)
+closed_result Buy k now was p = omega (arith, ints, result_is Sell k p was, result_is Sell k now was, result_is Buy k now p)
+closed_result Sell k now was p = omega (arith, ints, result_is Buy k p was, result_is Buy k now was, result_is Sell k now p)
 
-module _ (m : Market) (mk : Prices) (c : ℕ) (l : Position) where
-  sold_costs : of_contract c Sell l ≡ true → costs m mk l ≡ futures_tick m c * mk c
-  sold_costs e = let h = of_contract_lem c Sell l e in simp (h.1, h.0)
-
-  bought_brings : of_contract c Buy l ≡ true → brings m mk l ≡ futures_tick m c * mk c
-  bought_brings e = let h = of_contract_lem c Buy l e in simp (h.1, h.0)
+results_of_closed : (m : Market) (mk : Prices) (c p : ℕ) (s : Side) (ls : List (Lots Position)) → AllByRecursion (λ (l : Lots Position). of_contract c (other_side s) l.of ≡ true) ls →
+    results m (λ d. p) ls ≡ (results m mk ls +ℤ result s (all_lots ls * futures_tick m c) (mk c) p)
+results_of_closed m mk c p s [] f = omega (arith, ints, result_is s (0 * futures_tick m c) (mk c) p)
+results_of_closed m mk c p s (l ∷ ls) f =
+    let h = of_contract_lem c (other_side s) l.of f.0 in
+    let t = futures_tick m c in
+    rw (h.0, h.1) (omega (
+      arith,
+      ints,
+      closed_result s (l.count * t) (mk c) l.of.entry p,
+      results_of_closed m mk c p s ls f.1,
+      result_is s (l.count * t) (mk c) p,
+      result_is s (all_lots ls * t) (mk c) p,
+      result_is s (all_lots (l ∷ ls) * t) (mk c) p,
+    ))
 
 -- what closed lots pay and what the rest is worth is what all were worth and the closing fill measured to the prices
 pub results_closed : (m : Market) (mk : Prices) (c k p : ℕ) (s : Side) (ls : List (Lots Position)) → k ≤ lots_of (of_contract c (other_side s)) ls →
     results m (λ d. p) (part (of_contract c (other_side s)) k ls) +ℤ results m mk (left (of_contract c (other_side s)) k ls) ≡ results m mk ls +ℤ result s (k * futures_tick m c) (mk c) p
-results_closed m mk c k p Buy ls h =
-    let q = of_contract c Sell in
+results_closed m mk c k p s ls h =
+    let q = of_contract c (other_side s) in
     let n = weigh-count q k ls h in
-    let t = futures_tick m c in
-    omega (
-      arith,
-      ints,
-      weigh-left (brings m mk) q k ls,
-      weigh-left (costs m mk) q k ls,
-      weigh-kind (brings m mk) (brings m (λ d. p)) q k ls (sold_brings m mk (λ d. p) c),
-      weigh-kind (costs m mk) (λ l. t * mk c) q k ls (sold_costs m mk c),
-      weigh-kind (costs m (λ d. p)) (λ l. t * p) q k ls (sold_costs m (λ d. p) c),
-      results_is m mk ls,
-      results_is m mk (left q k ls),
-      results_is m (λ d. p) (part q k ls),
-      result_is Buy (k * t) (mk c) p,
-      weigh-scale (t * mk c) (part q k ls),
-      weigh-scale (t * p) (part q k ls),
-      ap (λ x. x * (t * mk c)) n,
-      ap (λ x. x * (t * p)) n,
-    )
-results_closed m mk c k p Sell ls h =
-    let q = of_contract c Buy in
-    let n = weigh-count q k ls h in
-    let t = futures_tick m c in
-    omega (
-      arith,
-      ints,
-      weigh-left (brings m mk) q k ls,
-      weigh-left (costs m mk) q k ls,
-      weigh-kind (costs m mk) (costs m (λ d. p)) q k ls (bought_costs m mk (λ d. p) c),
-      weigh-kind (brings m mk) (λ l. t * mk c) q k ls (bought_brings m mk c),
-      weigh-kind (brings m (λ d. p)) (λ l. t * p) q k ls (bought_brings m (λ d. p) c),
-      results_is m mk ls,
-      results_is m mk (left q k ls),
-      results_is m (λ d. p) (part q k ls),
-      result_is Sell (k * t) (mk c) p,
-      weigh-scale (t * mk c) (part q k ls),
-      weigh-scale (t * p) (part q k ls),
-      ap (λ x. x * (t * mk c)) n,
-      ap (λ x. x * (t * p)) n,
-    )
+    let closed = results_of_closed m mk c p s (part q k ls) (part_kind q k ls) in
+    omega (arith, ints, rw n at closed, results_left m mk q k ls)
 
 -- prices and ticks that agree where lots are held
 abbrev pub Alike : Market → Market → Prices → Prices → Position → Type 0

@@ -1,9 +1,9 @@
 -- Every run is lawful: the parts of the law go from each books to the next, whatever is entered.
-use Rattle.std.proofs.Common.{◌≡◌, ℕ, ◌+◌, ◌<◌, List, [], ◌∷◌, length, ℤ, ◌+ℤ◌, sym, refl, ap, ◌∙◌, subst, subst₂, arith}
+use Rattle.std.proofs.Common.{◌≡◌, ℕ, ◌<◌, List, [], ◌∷◌, length, ◌+ℤ◌, sym, refl, ap, ◌∙◌, subst, subst₂, arith, rules}
 use Rattle.std.proofs.ByRecursion.{All-from_get_or}
 use Rattle.std.proofs.lemmas.Int.{ints}
 use Rattle.std.specs.List.{AllByRecursion}
-use Rattle.entry.specs.Entries.{Said, lists_product, lists_contract, announces, sets_band, sets_spot, sets_mark, deposits, withdraws, cancels, orders, fills, opens, closes, ends_deadline}
+use Rattle.entry.specs.Entries.{Said, opens}
 use Rattle.margin_rule.specs.Meanings.{Meaning}
 use Rattle.margin_rule.specs.Laws.{Laws}
 use Rattle.books.specs.Market.{marks}
@@ -38,43 +38,21 @@ pub record Holds (rule : Meaning) (h : List Event) (b : Books) : Type 0 where
   pub refused : AllByRecursion RefusedBelowMaintenance h
   pub settled : SettledAtRegularCloses h
 
--- a declined entry adds nothing
-same_cover : (a : ℤ) (f g t : ℕ) → Covered a f g t → Covered a (0 + f) (0 + g) (0 + t)
-same_cover a f g t h = omega (arith, ints)
-
 market_after_lem : (rule : Meaning) (b : Books) (e : Said) → market_after b.market e ≡ (effect_of rule b e).market
-market_after_lem rule b (lists_product name kind tick terms spot) = refl
-market_after_lem rule b (lists_contract name product right strike floor ceiling mark) = refl
-market_after_lem rule b (announces name terms) = refl
-market_after_lem rule b (sets_band contract floor ceiling) = refl
-market_after_lem rule b (sets_spot product price) = refl
-market_after_lem rule b (sets_mark contract price) = refl
-market_after_lem rule b (deposits amount) = refl
-market_after_lem rule b (withdraws amount) = refl
-market_after_lem rule b (cancels order) = refl
-market_after_lem rule b (orders contract side effect lots price) = refl
-market_after_lem rule b (fills order lots price) = refl
 market_after_lem rule b opens = refl
-market_after_lem rule b closes = refl
-market_after_lem rule b ends_deadline = refl
+market_after_lem rule b _ = refl
 
 module _ (rule : Meaning) (laws : Laws rule) (h : List Event) (b : Books) (r : Holds rule h b) (e : Said) where
   step : (x : Answer) → answer rule b e ≡ x → Sound (effects.settled b (effect_of rule b e) x) →
       Holds rule (event rule b e x (effects.settled b (effect_of rule b e) x) ∷ h) (effects.settled b (effect_of rule b e) x)
+  -- a declined entry adds nothing
   step (declined k short) q s = record {
     sound = r.sound;
     phase = r.phase;
-    market = record {
-      terms = r.market.terms;
-      listings = r.market.listings;
-      owners = r.market.owners;
-      marks = r.market.marks;
-      products_apart = r.market.products_apart;
-      contracts_apart = r.market.contracts_apart;
-    };
+    market = search rules;
     orders = r.orders;
     value = λ mk. value_same rule h b b k short e mk (worth b mk) (r.value mk);
-    covered = same_cover (available rule b) (falls h) (fees h) (taxes h) r.covered;
+    covered = omega (arith, ints, r.covered);
     refused = (refused_step rule b laws r.sound e (declined k short) q, r.refused);
     settled = (refl, r.settled);
   }
@@ -95,23 +73,7 @@ module _ (rule : Meaning) (laws : Laws rule) (h : List Event) (b : Books) (r : H
       }
 
 pub holds : (rule : Meaning) (laws : Laws rule) {h : List Event} {b : Books} → Ran rule h b → Holds rule h b
-holds rule laws begins = record {
-  sound = sound_new;
-  phase = refl;
-  market = record {
-    terms = λ i l. absurd (omega arith);
-    listings = λ i l. absurd (omega arith);
-    owners = λ i l. absurd (omega arith);
-    marks = λ i l. absurd (omega arith);
-    products_apart = λ i l. absurd (omega arith);
-    contracts_apart = λ i l. absurd (omega arith);
-  };
-  orders = tt;
-  value = λ mk. refl;
-  covered = omega (arith, ints);
-  refused = tt;
-  settled = tt;
-}
+holds rule laws begins = search (rules, arith, ints, sound_new)
 holds rule laws (enters {h} {b} ran e) =
     let r = holds rule laws ran in
     step rule laws h b r e (answer rule b e) refl (sound_step rule b r.sound e)

@@ -1,11 +1,10 @@
 -- A regular close leaves no gain, and nothing else moves the surcharge.
-use Rattle.std.proofs.Common.{◌≡◌, ℕ, ◌-◌, ◌*◌, true, false, List, [], ◌∷◌, sym, refl, ap, ◌∙◌, subst, arith}
-use Rattle.entry.specs.Entries.{Said, lists_product, lists_contract, announces, sets_band, sets_spot, sets_mark, deposits, withdraws, cancels, orders, fills, opens, closes, ends_deadline}
+use Rattle.std.proofs.Common.{◌≡◌, ℕ, ◌*◌, true, false, List, [], ◌∷◌, sym, refl, ap, ◌∙◌, subst, arith}
+use Rattle.entry.specs.Entries.{Said, closes}
 use Rattle.entry.specs.declared.types.Side.{Side}
-use Rattle.entry.specs.declared.types.Side.TheVariants.{Buy, Sell}
 use Rattle.margin_rule.specs.Meanings.{Meaning}
 use Rattle.books.specs.declared.phase.Phase.{Phase}
-use Rattle.books.specs.declared.phase.Phase.TheVariants.{Before, Regular, Settled, AfterHours}
+use Rattle.books.specs.declared.phase.Phase.TheVariants.{Regular}
 use Rattle.books.specs.declared.rows.Lots.{Lots}
 use Rattle.books.specs.declared.rows.Position.{Position}
 use Rattle.books.specs.Lots.{weigh}
@@ -18,8 +17,7 @@ use Rattle.history.specs.Histories.{Event, phase_of, tells}
 use Rattle.history.specs.Law.{event, Settles}
 
 nothing_won : (s : Side) (k tick now : ℕ) → k * (tick * better s now now) ≡ 0
-nothing_won Buy k tick now = let z : now - now ≡ 0 = omega arith in rw z (omega arith)
-nothing_won Sell k tick now = let z : now - now ≡ 0 = omega arith in rw z (omega arith)
+nothing_won s k tick now = grind arith
 
 -- lots whose base is the mark have gained nothing
 gain_rebased : (m : Market) (ls : List (Lots Position)) → weigh (lot_gain m (marks m)) (rebased (marks m) ls) ≡ 0
@@ -28,23 +26,9 @@ gain_rebased m (l ∷ ls) = omega (arith, gain_rebased m ls, nothing_won l.of.si
 
 module _ (rule : Meaning) (h : List Event) (b : Books) (n : ℕ) (phase : phase_of h ≡ b.phase) where
   close_settles : (at : Phase) → b.phase ≡ at → Settles (at_regular_close at true false) (event rule b closes (taken n) (closed rule b))
-  close_settles Before e = ap (λ q. at_regular_close q (surcharge_of b.market b.lines) b.surcharge) e
   close_settles Regular e = ap (λ q. weigh (lot_gain b.market (marks b.market)) (at_regular_close q (rebased (marks b.market) b.lines) b.lines)) e ∙ gain_rebased b.market b.lines
-  close_settles Settled e = ap (λ q. at_regular_close q (surcharge_of b.market b.lines) b.surcharge) e
-  close_settles AfterHours e = ap (λ q. at_regular_close q (surcharge_of b.market b.lines) b.surcharge) e
+  close_settles _ e = ap (λ q. at_regular_close q (surcharge_of b.market b.lines) b.surcharge) e
 
   pub settles_step : (e : Said) → Settles (tells (phase_of h) e).session.settles (event rule b e (taken n) (effect_of rule b e))
-  settles_step (lists_product name kind tick terms spot) = refl
-  settles_step (lists_contract name product right strike floor ceiling mark) = refl
-  settles_step (announces name terms) = refl
-  settles_step (sets_band contract floor ceiling) = refl
-  settles_step (sets_spot product price) = refl
-  settles_step (sets_mark contract price) = refl
-  settles_step (deposits amount) = refl
-  settles_step (withdraws amount) = refl
-  settles_step (cancels order) = refl
-  settles_step (orders contract side effect lots price) = refl
-  settles_step (fills order lots price) = refl
-  settles_step opens = refl
   settles_step closes = subst (λ q. Settles (at_regular_close q true false) (event rule b closes (taken n) (closed rule b))) (sym phase) (close_settles b.phase refl)
-  settles_step ends_deadline = refl
+  settles_step _ = refl

@@ -1,8 +1,8 @@
 -- The order that a fill or a cancel names: it stands, its lots are there to be closed, and the history knows its contract and side.
-use Rattle.std.proofs.Common.{◌≡◌, ℕ, ◌*◌, ◌<◌, ◌≤◌, true, List, length, get_or, is_some, Some, sym, ap, ◌∙◌, subst, ap₂}
+use Rattle.std.proofs.Common.{◌≡◌, ℕ, ◌*◌, ◌<◌, ◌≤◌, true, List, length, get_or, is_some, Some, ap, ◌∙◌, ap₂, arith}
 use Rattle.std.proofs.ByRecursion.{All-get_or}
-use Rattle.std.proofs.lemmas.Bool.{eqb-true}
-use Rattle.std.specs.List.{AllByRecursion, find}
+use Rattle.std.proofs.lemmas.Bool.Decides.{nat_tests}
+use Rattle.std.specs.List.{find}
 use Rattle.entry.specs.declared.types.Side.{Side}
 use Rattle.entry.specs.declared.types.Terms.{Terms}
 use Rattle.books.specs.declared.rows.Lots.{Lots}
@@ -14,7 +14,7 @@ use Rattle.books.specs.Books.{Books, numbered, no_order}
 use Rattle.books.specs.Figures.{result}
 use Rattle.books.specs.Tests.{order_place, order_by, place_of}
 use Rattle.books.specs.Effects.{fees_of, taxes_of, premium_in, premium_out}
-use Rattle.books.specs.Sound.{Sound, Each}
+use Rattle.books.specs.Sound.{Sound}
 use Rattle.history.specs.Histories.{Event, Listing, Placed, Fill, terms_of, listing_of, product_of, terms_for, listing_for, placed_as, fees_in, taxes_in, premium, measure}
 use Rattle.history.proofs.Tested.{some_place}
 use Rattle.history.proofs.Sums.{found}
@@ -31,16 +31,11 @@ module _ (b : Books) (n : ℕ) (known : is_some (order_place b n) ≡ true) wher
   pub order_first : find (λ o. numbered n o.of) b.orders ≡ Some (order_by b n)
   order_first = stands.2
 
-  -- what holds of every standing order
-  order_fits : (P : Lots Order → Type 0) → Each no_order P b.orders → P (order_by b n)
-  order_fits P each = subst P (sym stands.1) (each (place_of (order_place b n)) stands.0)
-
-  order_has : (P : Lots Order → Type 0) → AllByRecursion P b.orders → P (order_by b n)
-  order_has P all = order_fits P (λ i l. All-get_or P b.orders i no_order l all)
-
   order_number : (order_by b n).of.number ≡ n
-  order_number = eqb-true (order_by b n).of.number n
-      (subst (λ o. numbered n o.of ≡ true) (sym stands.1) (found (λ o. numbered n o.of) no_order b.orders (place_of (order_place b n)) (some_place (order_place b n) known)).2)
+  order_number =
+      let named = found (λ o. numbered n o.of) no_order b.orders (place_of (order_place b n)) (some_place (order_place b n) known) in
+      let at = stands.1 in
+      grind (arith, nat_tests)
 
   -- its lots are there to be closed
   pub order_closes : Sound b → (k : ℕ) → k ≤ (order_by b n).count → Closes (order_by b n).of k b.lines
@@ -49,10 +44,14 @@ module _ (b : Books) (n : ℕ) (known : is_some (order_place b n) ≡ true) wher
   -- ---- what the history tells of it
   module _ (h : List Event) (s : Sound b) (a : MarketsAgree h b.market) (os : OrdersAgree h b.market b.orders) where
     placed_known : placed_as h n ≡ placed_in b.market (order_by b n).of
-    placed_known = subst (λ j. placed_as h j ≡ placed_in b.market (order_by b n).of) order_number (order_has (λ o. placed_as h o.of.number ≡ placed_in b.market o.of) os)
+    placed_known =
+        let placed = All-get_or (λ (o : Lots Order). placed_as h o.of.number ≡ placed_in b.market o.of) b.orders (place_of (order_place b n)) no_order stands.0 os in
+        let at = stands.1 in
+        let number = order_number in
+        cc
 
     listed : (order_by b n).of.contract < length b.market.contracts
-    listed = order_fits (λ o. o.of.contract < length b.market.contracts) (λ i l. (s.orders i l).0)
+    listed = rw stands.1 (s.orders (place_of (order_place b n)) stands.0).0
 
     owner_known : product_of h (placed_as h n).contract ≡ name_bytes (market.product_of b.market (order_by b n).of.contract).name
     owner_known = ap (λ (q : Placed). product_of h q.contract) placed_known ∙ a.owners (order_by b n).of.contract listed
