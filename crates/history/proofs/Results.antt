@@ -9,7 +9,7 @@ use Rattle.entry.specs.declared.types.Side.TheVariants.{Buy, Sell}
 use Rattle.books.specs.declared.rows.Lots.{Lots}
 use Rattle.books.specs.declared.rows.Position.{Position}
 use Rattle.books.specs.Lots.{weigh, lots_of, all_lots, left, part}
-use Rattle.books.specs.Market.{Market, Prices, by_side, other_side, futures_tick}
+use Rattle.books.specs.Market.{Market, Prices, by_side, same_side, other_side, futures_tick}
 use Rattle.books.specs.Books.{of_contract}
 use Rattle.books.specs.Figures.{result, results}
 use Rattle.books.specs.Effects.{rebased}
@@ -39,8 +39,11 @@ pub results_push : (m : Market) (mk : Prices) (ls : List (Lots Position)) (l : L
 results_push m mk [] l = omega (arith, ints)
 results_push m mk (x ∷ ls) l = omega (arith, ints, results_push m mk ls l)
 
+same_side_lem : (s t : Side) → same_side s t ≡ true → s ≡ t
+same_side_lem s t e = grind arith
+
 pub of_contract_lem : (c : ℕ) (s : Side) (l : Position) → of_contract c s l ≡ true → (l.contract ≡ c) × (l.side ≡ s)
-of_contract_lem c s l e = grind (arith, nat_tests)
+of_contract_lem c s l e = grind (arith, nat_tests, same_side_lem l.side s)
 
 -- what is left and what was taken are worth what all were
 results_left : (m : Market) (mk : Prices) (q : Position → Bool) (k : ℕ) (ls : List (Lots Position)) → results m mk (part q k ls) +ℤ results m mk (left q k ls) ≡ results m mk ls
