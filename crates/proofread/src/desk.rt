@@ -1,5 +1,5 @@
 // One line after another, answered with no account behind it.
-ghost use Rattle.std.specs.Prelude.{◌≡◌, [], ◌++◌, OnOk};
+ghost use Rattle.std.specs.Prelude.{◌≡◌, ◌==◌, [], ◌++◌, length, if◌then◌else◌, OnOk};
 ghost use Rattle.proofread.specs.Proof.{proof_text, next, printed, EachLineOf, Answered};
 
 use console::Front;
@@ -66,7 +66,8 @@ impl Desk {
     // Answers a last line that has no line feed.
     #[tactic(auto, using(crate::proofs::Desks::last_printed, crate::proofs::Desks::none_printed))]
     pub fn finish(&mut self) -> Result<(), AllocError>
-        ensures { OnOk result (EachLineOf self.old.line (λ begun. self.new.out.items ≡ self.old.out.items ++ printed self.old.number begun [])) }
+        ensures number { self.new.number ≡ (if length self.old.line == 0 then self.old.number else next self.old.number) }
+        ensures out { OnOk result (EachLineOf self.old.line (λ begun. self.new.out.items ≡ self.old.out.items ++ printed self.old.number begun [])) }
     {
         if self.line.as_slice().is_empty() {
             return Ok(());
