@@ -11,7 +11,7 @@ pub enum Phase {
     AfterHours = 3,
 }
 
-// Here and below each enum has an impl of its own: a macro of the repository may write none.
+// Here and below each enum has an impl of its own: one that a macro of the repository writes is refused.
 impl From<Phase> for u8 {
     ghost from_gives = { λ phase number. number ≡ phase_number phase };
 

@@ -12,6 +12,7 @@ pub enum Notice {
     CallOverdue = 3,
 }
 
+// Here and below each enum has an impl of its own: one that a macro of the repository writes is refused.
 impl From<Notice> for u8 {
     ghost from_gives = { λ notice number. number ≡ notice_number notice };
 

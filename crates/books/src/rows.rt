@@ -18,8 +18,8 @@ pub struct Product {
     pub spot: u32,
 }
 
-// A month of futures or a series of options. Prices are in ticks. A month has neither right and strike 0, as a line writes them; floor and
-// ceiling are plain numbers too, as they are keyed in.
+// A month of futures or a series of options. Prices are in ticks. Of a month the right is Neither and the strike 0, and no Option: they are kept
+// as a line writes them, and another value there is a decline of its own. Floor and ceiling are two plain numbers: a struct would only add a name.
 #[derive(Clone, Copy, Drop)]
 pub struct Contract {
     pub name: Name,

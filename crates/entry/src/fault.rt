@@ -28,7 +28,7 @@ impl From<Misfigure> for LineFault {
 }
 
 // A decline as it is told: its number, the layer that found it, the column in the line, the missing dollars. Plain numbers, since
-// they are what an answer prints; the kinds are the cases of the faults.
+// they are what an answer prints, 0 too where there is no column or no dollar; the kinds are the cases of the faults.
 #[derive(Clone, Copy, Debug, PartialEq, Drop)]
 pub struct Decline {
     pub number: u8,

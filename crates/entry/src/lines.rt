@@ -10,7 +10,7 @@ use crate::fault::LineFault;
 use crate::rest::Rest;
 use crate::types::{Entry, Request, Terms};
 
-// What is published of a product.
+// What is published of a product. The line stays, as with each method of `Rest`.
 #[tactic(auto, unfolding(crate::specs::Lines::terms_at))]
 fn read_terms(rest: &mut Rest<'_>) -> Result<Terms, LineFault>
     ensures value { ending rest.new.at result ≡ terms_at rest.old.line.now rest.old.at }

@@ -3,7 +3,7 @@ ghost use Rattle.std.specs.Prelude.{◌≡◌};
 ghost use Rattle.std.specs.List.{list_all};
 ghost use Rattle.entry.specs.Fields.{is_name_byte, is_name};
 
-// Matched as a character, as the letters are.
+// No method of bytes: the project reads a byte as a character and matches it against literals.
 fn is_name_byte(byte: u8) -> bool
     ensures { result ≡ is_name_byte byte }
 {

@@ -14,7 +14,7 @@ use figure::read_figure;
 // The longest line, without its line feed.
 const LONGEST: usize = 200;
 
-// A line, and the place where its next field begins. Not the part that is left alone: faults are told by their column in the line.
+// A line, and the place where its next field begins. Not only the part that is left: faults are told by their column in the line.
 #[derive(Drop)]
 pub(crate) struct Rest<'a> {
     line: &'a [u8],
@@ -23,7 +23,7 @@ pub(crate) struct Rest<'a> {
     ghost short: { length line.now ≤ 200 },
 }
 
-// The value of a field, and the column where it begins.
+// The value of a field, and the column where it begins, by which its fault is told.
 #[derive(Clone, Copy, Drop)]
 struct Value<'a> {
     bytes: &'a [u8],

@@ -42,7 +42,7 @@ pub struct Terms {
 }
 
 // What writes to an account; a name is a part of the line that was read. Every field of a line has a value, so none is an Option: a right, a
-// strike or a spot that a kind has not is N or 0.
+// strike or a spot that a kind has not is N or 0. Floor and ceiling are two plain numbers, as in a line.
 #[derive(Clone, Copy, Drop)]
 pub enum Entry<'a> {
     Product {

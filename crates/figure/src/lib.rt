@@ -13,7 +13,7 @@ pub enum FigureFault {
     NotDigit,
 }
 
-// The digit that a byte stands for, matched as a character.
+// The digit that a byte stands for. No method of bytes: the project reads a byte as a character and matches it against literals.
 fn digit(byte: u8) -> Result<u8, FigureFault>
     ensures value { result ≡ digit_of byte }
     ensures bound { IfOk result (λ d. d < 10) }
