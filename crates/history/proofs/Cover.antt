@@ -37,11 +37,15 @@ unsettled : {A : Type 0} (phase : Phase) (x y : A) → at_regular_close phase tr
 unsettled phase x y e = grind arith
 
 module _ (rule : Meaning) (laws : Laws rule) (h : List Event) (b : Books) (s : Sound b) (phase : phase_of h ≡ b.phase) (a : MarketsAgree h b.market) (os : OrdersAgree h b.market b.orders) (covered : Covered (available rule b) (falls h) (fees h) (taxes h)) where
-  -- a close: what it lowers counts where it is a regular one, and any other only frees what orders reserve
-  ended : (regular : Bool) → at_regular_close b.phase true false ≡ regular →
+  -- a close that is no regular one only frees what orders reserve
+  ended : at_regular_close b.phase true false ≡ false → available rule b ≤ℤ available rule (closed rule b)
+  ended f = rw (unsettled b.phase (rebased (marks b.market) b.lines) b.lines f, unsettled b.phase (surcharge_of b.market b.lines) b.surcharge f) (omega (arith, ints))
+
+  -- and what a regular one lowers counts
+  ended_covered : (regular : Bool) → at_regular_close b.phase true false ≡ regular →
       Covered (available rule (closed rule b)) (cond regular (up (available rule b -ℤ available rule (closed rule b))) 0 + falls h) (0 + fees h) (0 + taxes h)
-  ended true f = omega (arith, ints, covered)
-  ended false f = rw (unsettled b.phase (rebased (marks b.market) b.lines) b.lines f, unsettled b.phase (surcharge_of b.market b.lines) b.surcharge f) (omega (arith, ints, covered))
+  ended_covered true f = omega (arith, ints, covered)
+  ended_covered false f = omega (arith, ints, covered, ended f)
 
   -- a market that extends the old one
   extended : {m : Market} → Extends b.market m → Covered (available rule (with_market b m)) (0 + falls h) (0 + fees h) (0 + taxes h)
@@ -62,5 +66,5 @@ module _ (rule : Meaning) (laws : Laws rule) (h : List Event) (b : Books) (s : S
       let o = (order_by b order).of in
       let kept = fill_available rule laws b order lots price (order_by b order) (order_first b order known) (eqb-true (worse o.side price o.limit) 0 p.1.1.1.1.0) enough (order_closes b order known s lots enough) in
       omega (arith, ints, covered, fees_known b order known h s a os lots price, taxes_known b order known h s a os lots price)
-  cover_step closes p = rw phase (ended (at_regular_close b.phase true false) refl)
+  cover_step closes p = rw phase (ended_covered (at_regular_close b.phase true false) refl)
   cover_step e p = omega (arith, ints, covered)

@@ -1,8 +1,8 @@
 -- Rows that bear names, no name twice, and what is told under the names: changed in place, or with one row more.
 use Rattle.std.proofs.Common.{◌≡◌, ℕ, ◌<◌, Bool, true, cond, not, List, [], ◌∷◌, ◌++◌, length, get_or, set, is_some, Some, None, Option, refl, arith}
 use Rattle.std.proofs.lemmas.Slice.Eq.{bytes_eq-Decides}
-use Rattle.std.proofs.lemmas.List.{length_push, length-set, get_or_append_left, get_or_push}
-use Rattle.std.proofs.lemmas.List.Folds.{position_or_len-set, position_or_len_push}
+use Rattle.std.proofs.lemmas.List.{length-append, length_push, length-set, get_or_append_left, get_or_push}
+use Rattle.std.proofs.lemmas.List.Folds.{position_or_len-set, position_or_len_push, prefix_len-append}
 use Rattle.std.proofs.lemmas.List.Sums.{prefix_len-le-length}
 use Rattle.std.proofs.lemmas.Bool.Decides.{nat_tests}
 use Rattle.std.proofs.lemmas.Grind.{common_steps}
@@ -11,12 +11,9 @@ use Rattle.std.specs.Str.{bytes_eq}
 use Rattle.history.proofs.Sums.{found}
 use Rattle.history.proofs.KeepsRows.{set_leaves}
 
--- ---- a row changed in place
--- is found where it was
-
 -- ---- one row more
-first_before : {A : Type 0} (p : A → Bool) (xs : List A) (y : A) (i : ℕ) → position p xs ≡ Some i → position p (xs ++ y ∷ []) ≡ Some i
-first_before p xs y i e = grind (arith, common_steps, nat_tests)
+first_before : {A : Type 0} (p : A → Bool) (xs ys : List A) (i : ℕ) → position p xs ≡ Some i → position p (xs ++ ys) ≡ Some i
+first_before p xs ys i e = grind (arith, nat_tests, prefix_len-append, length-append)
 
 first_after : {A : Type 0} (p : A → Bool) (xs : List A) (y : A) (n : ℕ) → p y ≡ true → n ≡ length xs → position p xs ≡ None →
     position p (xs ++ y ∷ []) ≡ Some n
@@ -53,7 +50,7 @@ module _ {A : Type 0} (name : A → List ℕ) (d : A) where
       let size = length_push xs y in
       let low = get_or_append_left xs (y ∷ []) d i in
       let last = get_or_push xs y d i in
-      let old = first_before (bears name (name (get_or xs i d))) xs y i in
+      let old = first_before (bears name (name (get_or xs i d))) xs (y ∷ []) i in
       let fresh = first_after (bears name (name y)) xs y i ((bytes_eq-Decides (name y) (name y)).1 refl) in
       let here = apart i in
       grind arith
