@@ -9,8 +9,8 @@ use std::mem;
 impl<T: Copy, const N: usize> Table<T, N> {
     // Adds a row behind the last item; where there is no room nothing changes.
     pub fn push(&mut self, row: T) -> Result<(), Full>
-        ensures room { IsOk result ↔ (length self.old < N) }
-        ensures ok { OnOk result (self.new ≡ self.old ++ row ∷ []) }
+        ensures room { IsOk result ↔ (length self.old.items < N) }
+        ensures ok { OnOk result (self.new.items ≡ self.old.items ++ row ∷ []) }
         ensures err { OnErr result (self.new ≡ self.old) }
     {
         if self.len == N {
@@ -23,8 +23,8 @@ impl<T: Copy, const N: usize> Table<T, N> {
 
     // Puts a row in the place of an item, and hands that item out; past the last nothing changes.
     pub fn set(&mut self, place: usize, row: T) -> Option<T>
-        ensures was { result ≡ slice_get self.old place }
-        ensures after { self.new ≡ slice_set self.old place row }
+        ensures was { result ≡ slice_get self.old.items place }
+        ensures after { self.new.items ≡ slice_set self.old.items place row }
     {
         if place >= self.len {
             return None;
@@ -34,8 +34,8 @@ impl<T: Copy, const N: usize> Table<T, N> {
 
     // Takes an item out, and hands it out; past the last nothing changes. The items behind it keep their order.
     pub fn remove(&mut self, place: usize) -> Option<T>
-        ensures was { result ≡ slice_get self.old place }
-        ensures after { self.new ≡ remove self.old place }
+        ensures was { result ≡ slice_get self.old.items place }
+        ensures after { self.new.items ≡ remove self.old.items place }
     {
         if place >= self.len {
             return None;
@@ -48,7 +48,7 @@ impl<T: Copy, const N: usize> Table<T, N> {
 
     // Takes every item out.
     pub fn clear(&mut self)
-        ensures { self.new ≡ [] }
+        ensures { self.new.items ≡ [] }
     {
         self.len = 0;
     }
