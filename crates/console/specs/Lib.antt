@@ -1,2 +1,3 @@
+pub mod Fronts
 pub mod Streams
 pub mod Texts

@@ -1,55 +1,70 @@
 // The first 201 bytes of what is put into it: of a line, enough to tell that it is too long.
-ghost use Rattle.std.specs.Prelude.{◌≡◌, ℕ, ◌≤◌, List, [], ◌++◌, length, take};
+ghost use Rattle.std.specs.Prelude.{◌≡◌, ◌≤◌, [], ◌∷◌, ◌++◌, length, take};
 
-use arrayvec::ArrayVec;
-use std::io::Write;
 use std::marker::Model;
 
 // One byte more than the longest line.
 const SIZE: usize = 201;
 
+// An array and a length, and no `ArrayVec`, whose `clear` writes every byte that is held.
 #[derive(Drop)]
 pub struct Front {
-    held: ArrayVec<u8, SIZE>,
+    bytes: [u8; SIZE],
+    len: usize,
+    ghost within: { len ≤ 201 },
 }
 
-// Clauses see the bytes that are held.
+// Clauses see the bytes that are held, and that they are at most 201.
 impl Model for Front {
-    ghost Value = { List ℕ };
+    ghost use Rattle.console.specs.Fronts.{Held, held_code, first_bytes};
 
-    ghost view = { λ f. f.held.items };
+    ghost Value = { Held };
 
-    ghost invariant = { λ f. length f.held.items ≤ 201 };
+    ghost coded = { held_code };
+
+    ghost view = { λ f. first_bytes f.len f.bytes f.within };
 }
 
 impl Front {
     pub fn new() -> Front
-        ensures { result ≡ [] }
+        ensures { result.bytes ≡ [] }
     {
         Front {
-            held: ArrayVec::new(),
+            bytes: [0; SIZE],
+            len: 0,
         }
     }
 
     // The bytes that are held.
     pub fn as_slice(&self) -> &[u8]
-        ensures value { result.now ≡ self.now }
+        ensures value { result.now ≡ self.now.bytes }
         ensures within { length result.now ≤ 201 }
     {
-        self.held.as_slice()
+        &self.bytes[..self.len]
     }
 
     pub fn clear(&mut self)
-        ensures { self.new ≡ [] }
+        ensures { self.new.bytes ≡ [] }
     {
-        self.held.clear();
+        self.len = 0;
     }
 
     // Bytes more, as far as there is room.
     pub fn put(&mut self, part: &[u8])
-        ensures { self.new ≡ take 201 (self.old ++ part.now) }
+        ensures { self.new.bytes ≡ take 201 (self.old.bytes ++ part.now) }
     {
-        // never an Err: it takes what there is room for
-        let _taken = self.held.write(part);
+        let n = part.len().min(SIZE - self.len);
+        self.bytes[self.len..self.len + n].copy_from_slice(&part[..n]);
+        self.len += n;
+    }
+
+    // One byte more, if there is room.
+    pub(crate) fn put_byte(&mut self, byte: u8)
+        ensures { self.new.bytes ≡ take 201 (self.old.bytes ++ byte ∷ []) }
+    {
+        if self.len < SIZE {
+            self.bytes[self.len] = byte;
+            self.len += 1;
+        }
     }
 }

@@ -36,7 +36,7 @@ EachLineOf front So = (all : List ℕ) → front ≡ take 201 all → So all
 -- are together what they were, whatever comes after the block
 pub record Answered (before after : Desk) (block left begun : List ℕ) : Type 0 where
   pub begun_now : List ℕ
-  pub line : after.line ≡ take 201 begun_now
+  pub line : after.line.bytes ≡ take 201 begun_now
   pub same : (more : List ℕ) → vec_items before.out ++ printed before.number begun (block ++ more) ≡ vec_items after.out ++ printed after.number begun_now (left ++ more)
 
 -- what was held out is written, and nothing else has changed

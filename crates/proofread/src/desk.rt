@@ -8,7 +8,7 @@ use std::alloc::{AllocError, Global};
 
 // The answer to a line, told by its first 201 bytes.
 fn answer_to(text: &mut Front, number: u64, line: &[u8])
-    ensures { EachLineOf line.now (λ all. text.new ≡ proof_text number all) }
+    ensures { EachLineOf line.now (λ all. text.new.bytes ≡ proof_text number all) }
 {
     match read_line(line) {
         Ok(_) => text.answer_done(number, 0),
@@ -27,7 +27,7 @@ pub struct Desk {
 
 impl Desk {
     pub fn new(heap: Global) -> Desk
-        ensures line { result.line ≡ [] }
+        ensures line { result.line.bytes ≡ [] }
         ensures number { result.number ≡ 0 }
         ensures out { result.out.items ≡ [] }
     {
@@ -41,9 +41,9 @@ impl Desk {
 
     // Answers the line that has begun, and begins the next.
     fn answer(&mut self) -> Result<(), AllocError>
-        ensures line { self.new.line ≡ [] }
+        ensures line { self.new.line.bytes ≡ [] }
         ensures number { self.new.number ≡ next self.old.number }
-        ensures out { OnOk result (EachLineOf self.old.line (λ all. self.new.out.items ≡ self.old.out.items ++ proof_text (next self.old.number) all)) }
+        ensures out { OnOk result (EachLineOf self.old.line.bytes (λ all. self.new.out.items ≡ self.old.out.items ++ proof_text (next self.old.number) all)) }
     {
         self.number = self.number.saturating_add(1);
         answer_to(&mut self.text, self.number, self.line.as_slice());
@@ -53,7 +53,7 @@ impl Desk {
 
     // Answers the lines that end in the block.
     pub fn answer_block(&mut self, block: &[u8]) -> Result<(), AllocError>
-        ensures { OnOk result (EachLineOf self.old.line (λ begun. Answered self.old self.new block.now [] begun)) }
+        ensures { OnOk result (EachLineOf self.old.line.bytes (λ begun. Answered self.old self.new block.now [] begun)) }
     {
         let mut rest = block;
         while let Some(behind) = self.line.fill(rest) {
@@ -66,8 +66,8 @@ impl Desk {
     // Answers a last line that has no line feed.
     #[tactic(auto, using(crate::proofs::Desks::last_printed, crate::proofs::Desks::none_printed))]
     pub fn finish(&mut self) -> Result<(), AllocError>
-        ensures number { self.new.number ≡ (if length self.old.line == 0 then self.old.number else next self.old.number) }
-        ensures out { OnOk result (EachLineOf self.old.line (λ begun. self.new.out.items ≡ self.old.out.items ++ printed self.old.number begun [])) }
+        ensures number { self.new.number ≡ (if length self.old.line.bytes == 0 then self.old.number else next self.old.number) }
+        ensures out { OnOk result (EachLineOf self.old.line.bytes (λ begun. self.new.out.items ≡ self.old.out.items ++ printed self.old.number begun [])) }
     {
         if self.line.as_slice().is_empty() {
             return Ok(());

@@ -1,10 +1,8 @@
-use Rattle.std.proofs.Common.{◌++◌, take, Some, subst, ap, ◌∙◌}
-use Rattle.std.specs.Io.KnownBytes.{WriteAppends}
-use Rattle.console.proofs.Putting.{put_room}
+use Rattle.std.proofs.Common.{◌++◌, take, ap, ◌∙◌, arith}
+use Rattle.console.proofs.Putting.{stored}
 use Rattle.console.proofs.front.Front.put.Goals as goal
 
 pub returns : goal.returns
 returns c =
-    subst (λ r. WriteAppends (Some c.self.inside.held.items) (Some c.write-taken.new.self.items) r c.args.part.now) c.write-taken.ensures.count c.write-taken.ensures.bytes
-    ∙ put_room c.self.inside.held.items c.args.part.now 201 c.self.invariant
-    ∙ ap (λ held. take 201 (held ++ c.args.part.now)) c.self.view_is
+    stored c.self.inside.bytes c.args.part.now c.copy_from_slice.new.self 201 c.self.inside.len _ c.min-n.result (omega arith) (omega arith) c.min-n.ensures c.copy_from_slice.ensures.after
+    ∙ ap (λ held. take 201 (held.bytes ++ c.args.part.now)) c.self.view_is
