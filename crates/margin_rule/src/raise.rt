@@ -55,7 +55,7 @@ fn percent_of(percent: u32, x: u64) -> u64
     requires x { x ≤ highest_need }
     ensures { result ≡ percent_of percent x }
 {
-    (x * percent as u64).div_ceil(100)
+    (x * percent as u64 + 99) / 100
 }
 
 impl<R: MarginRule> MarginRule for Raise<R> {
