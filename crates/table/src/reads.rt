@@ -41,7 +41,8 @@ impl<T: Copy, const N: usize> Table<T, N> {
     // A second table with equal items. No derived `Copy`: it asks for the places that hold no row too, and a clause sees the items alone.
     // Nor `Clone`, which may fail where this cannot.
     pub fn copied(&self) -> Table<T, N>
-        ensures { result.items ≡ self.now.items }
+        ensures items { result.items ≡ self.now.items }
+        ensures value { result ≡ self.now }
     {
         Table {
             rows: self.rows,
